@@ -1,0 +1,14 @@
+pub mod Days
+pub mod Parts
+pub mod Figure
+pub mod Dues
+pub mod Choices
+pub mod First
+pub mod Flow
+pub mod Payments
+pub mod Meaning
+pub mod Listing
+pub mod Order
+pub mod Adding
+pub mod Settle
+pub mod Standing

@@ -1,0 +1,11 @@
+pub mod Text
+pub mod Reading
+pub mod Nodes
+pub mod Figures
+pub mod Openings
+pub mod Written
+pub mod Bounds
+pub mod Ranges
+pub mod Limits
+pub mod Stages
+pub mod Spelling
