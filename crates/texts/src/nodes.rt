@@ -63,7 +63,7 @@ impl Tree {
     }
 
     // How many nodes there are, and so where the next goes.
-    pub fn count(&self) -> usize
+    pub(crate) fn count(&self) -> usize
         ensures { λ r. ⌜ ((ns : List Node) → Holds (now (self .entry)) ns → r ≡ min (length ns) 257) ⌝ }
     {
         self.count
