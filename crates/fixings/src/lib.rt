@@ -1,4 +1,6 @@
 // Rates of the last 4,097 days, kept in lent words: as long as a figure may look back.
+#![tactic(auto)]
+
 ghost use Rattle.std.specs.Prelude.{◌≡◌, ◌*◌, ◌%◌, ◌<◌, ◌≤◌, length, MatchOption};
 ghost use Rattle.fixings.specs.Fixings.{KeepsRates, LooksBack};
 

@@ -1,4 +1,6 @@
 // Reads a start and mornings from the files that are named, and prints the refusal of each that is refused.
+#![tactic(auto)]
+
 use anyhow::anyhow;
 use mornings::{Start, judge_morning, judge_start, numbered};
 use std::env::Args;

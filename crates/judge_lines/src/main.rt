@@ -1,4 +1,6 @@
 // Reads each line as bytes in hexadecimal: one that is 0 for a thin house and else 1, five of a start, four of the day, four of the deals so far, then a morning. Prints the verdict.
+#![tactic(auto)]
+
 ghost use Rattle.std.specs.Prelude.{◌<◌};
 
 use mornings::{Ends, Refusal, judge_morning, judge_start, numbered};

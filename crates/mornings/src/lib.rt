@@ -1,4 +1,6 @@
 // Starts, mornings and payments in bytes: what they stand for, or where they are first in fault.
+#![tactic(auto)]
+
 ghost use Rattle.std.specs.Prelude.{◌≡◌};
 ghost use Rattle.mornings.specs.Verdict.{fault};
 ghost use Rattle.mornings.specs.Laws.{OneVerdict, HandedOut, Walked, WrittenTaken, EveryTaken, PiecesStand, PiecesJudged, TakenFits, NeverSame, FrontToBack};

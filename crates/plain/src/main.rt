@@ -1,4 +1,6 @@
 // Reads a start and mornings from the files that are named, and prints what is paid on each day, worked out anew from all days so far, and the refusal of each that is refused.
+#![tactic(auto)]
+
 use anyhow::anyhow;
 use mornings::payments::read_payment;
 use mornings::{Ends, Refusal, Start, judge_morning, judge_start, numbered};

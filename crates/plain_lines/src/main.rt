@@ -1,4 +1,6 @@
 // Books from lines, as `plain` prints them: a line that begins with 00 is a start, one that begins with 01 a morning, each with its bytes in hexadecimal behind that; others are printed as they are.
+#![tactic(auto)]
+
 ghost use Rattle.std.specs.Prelude.{◌<◌};
 
 use mornings::payments::read_payment;

@@ -1,4 +1,6 @@
 // The meaning of contracts as a program: works out all days anew, from the bytes of the mornings taken.
+#![tactic(auto)]
+
 mod adding;
 mod choices;
 pub mod days;

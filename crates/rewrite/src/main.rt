@@ -1,4 +1,6 @@
 // Reads the text of a contract on standard input, of which one line feed at its end is no part, and prints it anew, or why and where it is refused.
+#![tactic(auto)]
+
 ghost use Rattle.std.specs.Prelude.{◌≤◌, length};
 
 use std::io;

@@ -1,4 +1,6 @@
 // The house: wakes the deals of a day that the lent bytes keep, adds up what is due and writes the payments.
+#![tactic(auto)]
+
 ghost use Rattle.std.specs.Prelude.{◌*◌, ◌≤◌, length};
 ghost use Rattle.settlement.specs.Settled.{Settles};
 

@@ -1,4 +1,6 @@
 // Reads each line as the text of a contract, with 256 rates and 64 currencies, and prints it anew, or why and where it is refused.
+#![tactic(auto)]
+
 use std::io;
 use std::io::{BufRead, BufReader};
 use texts::nodes::Tree;

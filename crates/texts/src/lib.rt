@@ -1,4 +1,6 @@
 // Reads and writes the texts of contracts.
+#![tactic(auto)]
+
 ghost use Rattle.texts.specs.Bounds.{OneVerdict, FitsByText, HasTaken};
 ghost use Rattle.texts.specs.Stages.{ThinTaken};
 ghost use Rattle.texts.specs.Written.{HasText, ReadAgain, OneAtMost};
