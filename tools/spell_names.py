@@ -37,16 +37,18 @@ def files(*ends):
 
 def declared():
     """The names with a dash that the repository's own definitions, lemmas, records and cases have."""
-    names = set()
-    for path in files('.antt'):
+    names, library = set(), set()
+    for path in files('.antt', '.rt'):
         for line in open(path, encoding='utf-8'):
+            if re.match(r"(?:ghost )?use (?:Rattle\.std|borrow|Prim)\b", line):
+                library.update(WORD.findall(line))
             m = re.match(r"^\s*(?:pub )?(?:abbrev |unfoldable )?(?:pub )?(?:data |record )?(%s)(?: [({].*)? :(?: (\S+))?" % NAME, line)
             if not m or '-' not in m.group(1):
                 continue
             if (m.group(2) or '').startswith('goal.'):
                 continue
             names.add(m.group(1))
-    return names
+    return names - library
 
 
 def spelled(name):

@@ -4,7 +4,7 @@ use lib.IntN.{+ℤ_idl}
 use Rattle.std.specs.List.{range_with_len, swap, AllByRecursion as All}
 use Rattle.std.specs.List.Sorted.{apply_swaps, IsPermutation, IsNonDecreasingBy, IsNonDecreasing}
 use Rattle.std.proofs.ByRecursion.{All-get_or, All-from_get_or, all_shuffled}
-use Rattle.std.proofs.lemmas.List.{length_map, map-set, get_or-map}
+use Rattle.std.proofs.lemmas.List.{length-map, map-set, get_or-map}
 use Rattle.std.proofs.lemmas.List.Sorted.{length_permutation}
 use Rattle.std.proofs.lemmas.Bool.Decides.{nat_tests}
 use Rattle.deals.specs.Contract.{Contract, Day, Deal, Flow, Morning, pick, flows, on_that_day, owed, net, all_days, all_deals}
@@ -108,7 +108,7 @@ map_moved g xs [] = refl
 map_moved g xs (p ∷ ps) = map_exchanged g (apply_swaps xs ps) p.0 p.1 ∙ ap (λ l. swap l p.0 p.1) (map_moved g xs ps)
 
 shuffled_map : {A B : Type 0} (g : A → B) (xs ys : List A) → IsPermutation xs ys → IsPermutation (map g xs) (map g ys)
-shuffled_map g xs ys s = record { moves = s.moves; below = rw (length_map xs g) s.below; is = ap (map g) s.is ∙ map_moved g xs s.moves }
+shuffled_map g xs ys s = record { moves = s.moves; below = rw (length-map xs g) s.below; is = ap (map g) s.is ∙ map_moved g xs s.moves }
 
 kept_all : (xs : List ℕ) → filter (λ c. true) xs ≡ xs
 kept_all [] = refl
@@ -159,7 +159,7 @@ module _ (due : List Owes) (deals : List DealIn) (many : length due ≡ length d
     keys_good = all_shuffled Good (map word (range_with_len 0 (length deals))) keys words (words_good (range_with_len 0 (length deals)) (below_all (λ c. c < length deals) (λ c lt. lt)))
 
     pub keys_long : length keys ≡ length deals
-    keys_long = length_permutation (map word (range_with_len 0 (length deals))) keys words ∙ length_map (range_with_len 0 (length deals)) word ∙ count_long 0 (length deals)
+    keys_long = length_permutation (map word (range_with_len 0 (length deals))) keys words ∙ length-map (range_with_len 0 (length deals)) word ∙ count_long 0 (length deals)
       where
         count_long : (a n : ℕ) → length (range_with_len a n) ≡ n
         count_long a zero = refl
@@ -172,7 +172,7 @@ module _ (due : List Owes) (deals : List DealIn) (many : length due ≡ length d
 
     pub order_rises : IsNonDecreasing keys → IsNonDecreasingBy pr (map (λ w. w % 65536) keys)
     order_rises up i j d l n =
-        let long = length_map keys (λ w. w % 65536) in
+        let long = length-map keys (λ w. w % 65536) in
         let a = get_or-map (λ w. w % 65536) keys i 0 d (omega arith) in
         let b = get_or-map (λ w. w % 65536) keys j 0 d (omega arith) in
         let p = All-get_or Good keys i 0 (omega arith) keys_good in

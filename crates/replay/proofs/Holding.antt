@@ -1,6 +1,6 @@
 -- What a row of amounts holds after one more, or after some came out above.
 use Rattle.std.proofs.Common.{◌≡◌, ℕ, zero, suc, ◌+◌, ◌-◌, ◌<◌, ◌≤◌, min, List, [], ◌∷◌, ◌++◌, map, length, get_or, take, drop, set, sym, refl, ap, ◌∙◌, subst, append_assoc, add-one, arith, length-append, take-append-drop}
-use lib.ListN.{length_map}
+use lib.ListN.{length-map}
 use Rattle.std.proofs.lemmas.List.{take_more_set, set_at, get_or_at, take_at}
 use Rattle.replay.specs.declared.dues.Due.{Due}
 use Rattle.replay.specs.declared.dues.Dues.{Dues}
@@ -58,7 +58,7 @@ lifted_from d d' from end above ends counts is xs ys h e =
     let f = lift_due above in
     let long = length-append xs ys in
     let long' = length-append xs (map f ys) in
-    let same = length_map ys f in
+    let same = length-map ys f in
     record {
       many = omega arith;
       all = λ few.

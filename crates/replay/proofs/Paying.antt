@@ -4,7 +4,7 @@ use lib.IntN.{+ℤ_idl}
 use Rattle.std.specs.Int.{int_wrap}
 use Rattle.std.proofs.lemmas.Nat.{mul-le}
 use Rattle.std.proofs.lemmas.Int.{int_wrap-add_same, int_wrap_fits}
-use Rattle.std.proofs.lemmas.List.{drop_more, drop_all, length_map, length-take, length-replicate, get_or-take, get_or-replicate, get_or-map}
+use Rattle.std.proofs.lemmas.List.{drop_more, drop_all, length-map, length-take, length-replicate, get_or-take, get_or-replicate, get_or-map}
 use Rattle.std.proofs.lemmas.Bool.{eq-eqb, ne_eqb}
 use Rattle.deals.specs.Contract.{pick, is_zero}
 use Rattle.deals.specs.Promise.{size}
@@ -25,9 +25,9 @@ use Rattle.replay.proofs.Writing.{written_start}
 abbrev paid_lines : List Line → List Payment
 paid_lines ls = map (λ l. as_bytes (written l)) ls
 
-map_append : (xs ys : List Line) → paid_lines (xs ++ ys) ≡ paid_lines xs ++ paid_lines ys
-map_append [] ys = refl
-map_append (x ∷ xs) ys = ap (λ z. as_bytes (written x) ∷ z) (map_append xs ys)
+map-append : (xs ys : List Line) → paid_lines (xs ++ ys) ≡ paid_lines xs ++ paid_lines ys
+map-append [] ys = refl
+map-append (x ∷ xs) ys = ap (λ z. as_bytes (written x) ∷ z) (map-append xs ys)
 
 -- HOW MANY
 
@@ -65,7 +65,7 @@ paired_few cs a b f (o ∷ os) =
 pub grouped_few : (cs : ℕ) (os : List Owes) → length (grouped_payments cs os) ≤ length os * cs
 unfolding grouped_payments
 grouped_few cs os =
-    omega (arith, length_map (paired cs 0 0 (λ k. pos 0) os) (λ l. as_bytes (written l)), paired_few cs 0 0 (λ k. pos 0) os, ap length (no_lines cs 0 0))
+    omega (arith, length-map (paired cs 0 0 (λ k. pos 0) os) (λ l. as_bytes (written l)), paired_few cs 0 0 (λ k. pos 0) os, ap length (no_lines cs 0 0))
 
 -- ONE DEAL AFTER THE OTHER
 
@@ -87,7 +87,7 @@ owed_is due keys i lt = get_or-map (λ w. get_or due (w % 65536) nobody) keys i 
 
 pub owed_many : (due : List Owes) (keys : List ℕ) → length (owed_by due keys) ≡ length keys
 unfolding owed_by
-owed_many due keys = length_map keys (λ w. get_or due (w % 65536) nobody)
+owed_many due keys = length-map keys (λ w. get_or due (w % 65536) nobody)
 
 pub zeros_long : (n k : ℕ) → k ≤ n → length (take (k - 0) (replicate n (pos 0))) ≡ k
 zeros_long n k h = length-take (k - 0) (replicate n (pos 0)) ∙ ap (λ m. min (k - 0) m) (length-replicate n (pos 0)) ∙ omega arith
@@ -135,8 +135,8 @@ module _ (cs : ℕ) (was : List ℕ) (os : List Owes) (i q count : ℕ) (sums : 
         arith,
         ap length e,
         length-append p.ps (paid_lines (ls ++ ms)),
-        length_map (ls ++ ms) (λ l. as_bytes (written l)),
-        length_map ls (λ l. as_bytes (written l)),
+        length-map (ls ++ ms) (λ l. as_bytes (written l)),
+        length-map ls (λ l. as_bytes (written l)),
         length-append ls ms,
         grouped_few cs os,
         p.done.count,
@@ -206,7 +206,7 @@ module _ (cs : ℕ) (was : List ℕ) (os : List Owes) (i q count : ℕ) (sums : 
         let rest : p.ps ++ paid_lines (lines ++ more) ≡ grouped_payments cs os = ap (λ z. p.ps ++ paid_lines z) (sym step) ∙ p.rest in
         let ended = paid was p.ps p.f p.done sums_are (subst (λ m. 13 * count + 13 * length (pair_payments m a b p.f) ≤ length was) (sym long) (roomy lines more rest)) in
         let all : (p.ps ++ paid_lines lines) ++ paid_lines more ≡ grouped_payments cs os =
-        append_assoc p.ps (paid_lines lines) (paid_lines more) ∙ ap (λ z. p.ps ++ z) (sym (map_append lines more)) ∙ rest in
+        append_assoc p.ps (paid_lines lines) (paid_lines more) ∙ ap (λ z. p.ps ++ z) (sym (map-append lines more)) ∙ rest in
         record {
           f = adds o;
           ps = p.ps ++ paid_lines lines;

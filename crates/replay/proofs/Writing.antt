@@ -102,9 +102,9 @@ unfolding for_each
 each_more f i zero = append-nil (f i) ∙ ap f (omega arith)
 each_more f i (suc n) = ap (λ z. f i ++ z) (each_more f (suc i) n) ∙ sym (append_assoc (f i) (for_each f (suc i) n) (f (suc i + n))) ∙ ap (λ m. (f i ++ for_each f (suc i) n) ++ f m) (omega arith)
 
-map_append : {A B : Type 0} (g : A → B) (xs ys : List A) → map g (xs ++ ys) ≡ map g xs ++ map g ys
-map_append g [] ys = refl
-map_append g (x ∷ xs) ys = ap (λ z. g x ∷ z) (map_append g xs ys)
+map-append : {A B : Type 0} (g : A → B) (xs ys : List A) → map g (xs ++ ys) ≡ map g xs ++ map g ys
+map-append g [] ys = refl
+map-append g (x ∷ xs) ys = ap (λ z. g x ∷ z) (map-append g xs ys)
 
 listed_is : (a b k : ℕ) (v : ℤ) → listed (payment_of a b k v) ≡ map (λ l. as_bytes (written l)) (line a b k v)
 unfolding payment_of line
@@ -118,7 +118,7 @@ pub one_currency : (k a b : ℕ) (f : ℕ → ℤ) → pair_payments (k + 1) a b
 unfolding pair_lines
 one_currency k a b f =
     rw (add-one k) (ap (map (λ l. as_bytes (written l))) (each_more (λ k. line a b k (f k)) 0 k ∙ ap (λ m. for_each (λ k. line a b k (f k)) 0 k ++ line a b m (f m)) (omega arith))
-    ∙ map_append (λ l. as_bytes (written l)) (for_each (λ k. line a b k (f k)) 0 k) (line a b k (f k)) ∙ ap (λ z. pair_payments k a b f ++ z) (sym (listed_is a b k (f k))))
+    ∙ map-append (λ l. as_bytes (written l)) (for_each (λ k. line a b k (f k)) 0 k) (line a b k (f k)) ∙ ap (λ z. pair_payments k a b f ++ z) (sym (listed_is a b k (f k))))
 
 pub no_currency : (a b : ℕ) (f : ℕ → ℤ) → pair_payments 0 a b f ≡ []
 unfolding pair_lines for_each

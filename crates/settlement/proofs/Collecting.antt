@@ -2,7 +2,7 @@
 use Rattle.std.proofs.Common.{◌≡◌, ℕ, zero, suc, ◌+◌, ◌<◌, ◌≤◌, true, false, cond, List, [], ◌∷◌, ◌++◌, map, filter, sym, refl, ap, ◌∙◌, add-one, arith}
 use Rattle.std.specs.List.{range_with_len}
 use Rattle.std.proofs.lemmas.List.Elements.{filter-append}
-use Rattle.std.proofs.lemmas.List.{append-nil, map_append}
+use Rattle.std.proofs.lemmas.List.{append-nil, map-append}
 use Rattle.std.proofs.lemmas.Bool.{le-leb, lt-leb}
 use Rattle.settlement.specs.Directory.{entry_of}
 use Rattle.settlement.specs.Order.{word_at, wakes_at, words_waking}
@@ -22,7 +22,7 @@ unfolding words_waking
 one_more t s c =
     ap (λ zs. map (word_at s) (filter (wakes_at t s) zs)) (counting_more 0 c ∙ ap (λ z. range_with_len 0 c ++ z ∷ []) (omega arith))
     ∙ ap (map (word_at s)) (filter-append (wakes_at t s) (range_with_len 0 c) (c ∷ []))
-    ∙ map_append (word_at s) (filter (wakes_at t s) (range_with_len 0 c)) (cond (wakes_at t s c) (c ∷ []) [])
+    ∙ map-append (word_at s) (filter (wakes_at t s) (range_with_len 0 c)) (cond (wakes_at t s c) (c ∷ []) [])
 
 pub waking_yes : (t : ℕ) (s : List ℕ) (c : ℕ) → (entry_of s c).kept.wake ≤ t → words_waking t s (c + 1) ≡ words_waking t s c ++ word_at s c ∷ []
 unfolding wakes_at

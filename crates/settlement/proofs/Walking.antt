@@ -2,7 +2,7 @@
 use Rattle.std.proofs.Common.{◌≡◌, ℕ, zero, suc, ◌+◌, ◌-◌, ◌*◌, ◌/◌, ◌%◌, ◌<◌, ◌≤◌, min, true, false, eqb, ◌≢◌, ◌⊎◌, List, [], ◌∷◌, ◌++◌, map, length, get_or, take, drop, replicate, ℤ, pos, ◌+ℤ◌, sym, refl, ap, ◌∙◌, subst, inl, inr, ⊎_elim, arith, w64, SFits}
 use Rattle.std.specs.List.{AllByRecursion as All}
 use Rattle.std.specs.Int.{int_wrap}
-use Rattle.std.proofs.lemmas.List.{append_assoc, append-nil, length-append, map_append, drop_more, drop_all, length-take, length-replicate, get_or-take, get_or-replicate}
+use Rattle.std.proofs.lemmas.List.{append_assoc, append-nil, length-append, map-append, drop_more, drop_all, length-take, length-replicate, get_or-take, get_or-replicate}
 use Rattle.std.proofs.lemmas.Int.{ints, int_wrap_fits, int_wrap-add_same}
 use Rattle.std.proofs.lemmas.Bool.{cases_Bool, eq-eqb, ne_eqb, cases_eq, lt-ltb, le-ltb, cases_lt}
 use Rattle.deals.specs.Contract.{pick, larger, is_zero}
@@ -89,7 +89,7 @@ module _ (t n cs : ℕ) (see : ℕ → Today) (hs : ℕ → Held) (s₀ ws was :
     split =
         w.total
         ∙ ap (λ z. w.done ++ map written z) is
-        ∙ ap (λ z. w.done ++ z) (map_append written (pair_lines cs at.low at.high w.sums) rest)
+        ∙ ap (λ z. w.done ++ z) (map-append written (pair_lines cs at.low at.high w.sums) rest)
         ∙ sym (append_assoc w.done (map written (pair_lines cs at.low at.high w.sums)) (map written rest))
 
     room : 13 * at.count + 13 * length (pair_payments cs at.low at.high w.sums) ≤ length was

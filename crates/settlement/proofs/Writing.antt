@@ -77,9 +77,9 @@ for_more f i (suc n) =
     ∙ ap (λ zs. f i ++ zs) (ap (for_each f (suc i)) (sym (add-one n)) ∙ for_more f (suc i) n ∙ ap (λ m. for_each f (suc i) n ++ f m) last)
     ∙ sym (append_assoc (f i) (for_each f (suc i) n) (f (i + suc n)))
 
-map_append : (xs ys : List Line) → map written (xs ++ ys) ≡ map written xs ++ map written ys
-map_append [] ys = refl
-map_append (x ∷ xs) ys = ap (λ zs. written x ∷ zs) (map_append xs ys)
+map-append : (xs ys : List Line) → map written (xs ++ ys) ≡ map written xs ++ map written ys
+map-append [] ys = refl
+map-append (x ∷ xs) ys = ap (λ zs. written x ∷ zs) (map-append xs ys)
 
 pub pair_none : (a b : ℕ) (sums : ℕ → ℤ) (was : List ℕ) (ps : List Paid) (n : ℕ) (s : List ℕ) → Written was ps n s → Written was (ps ++ pair_payments 0 a b sums) n s
 unfolding pair_payments pair_lines for_each
@@ -89,7 +89,7 @@ one_more : (cs a b : ℕ) (sums : ℕ → ℤ) → pair_payments (cs + 1) a b su
 unfolding pair_payments pair_lines line_payments
 one_more cs a b sums =
     let f : ℕ → List Line = λ k. line a b k (sums k) in
-    ap (map written) (for_more f 0 cs ∙ ap (λ m. for_each f 0 cs ++ f m) (omega arith)) ∙ map_append (for_each f 0 cs) (f cs)
+    ap (map written) (for_more f 0 cs ∙ ap (λ m. for_each f 0 cs ++ f m) (omega arith)) ∙ map-append (for_each f 0 cs) (f cs)
 
 no_shorter : (i n a b : ℕ) (sums : ℕ → ℤ) → i ≤ n → length (pair_payments i a b sums) ≤ length (pair_payments n a b sums)
 no_shorter i zero a b sums h = let e : i ≡ 0 = omega arith in rw e (omega arith)

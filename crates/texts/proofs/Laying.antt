@@ -2,7 +2,7 @@
 use Rattle.std.proofs.Common.{◌≡◌, ℕ, zero, suc, ◌+◌, ◌/◌, ◌%◌, ◌^◌, ◌<◌, ◌≤◌, List, [], ◌∷◌, ◌++◌, map, length, get_or, take, drop, set, ℤ, pos, negsuc, nat_abs, codes, sym, refl, ap, ◌∙◌, subst, arith, length-append, w64, SFits}
 use Rattle.std.specs.Int.Digits.{digits_of}
 use Rattle.std.proofs.lemmas.Int.Digits.{digits_of_step, length-digits_of-le}
-use Rattle.std.proofs.lemmas.List.{take_more, set_past, length_map, map_append}
+use Rattle.std.proofs.lemmas.List.{take_more, set_past, length-map, map-append}
 use Rattle.std.proofs.lemmas.List.Edits.{sets, sets-eq}
 use Rattle.texts.specs.Written.{written_number, written_amount, written_rate}
 use Rattle.texts.specs.Spelling.{laid, Put}
@@ -49,11 +49,11 @@ shown_is (suc n) h = refl
 pub large_number : (n : ℕ) → 10 ≤ n → written_number n ≡ written_number (n / 10) ++ ((48 + n % 10) ∷ [])
 large_number n h =
     shown_is n (omega arith) ∙ ap (map (λ d. 48 + d)) (digits_of_step 10 n (omega arith) (omega arith))
-    ∙ map_append (λ d. 48 + d) (digits_of 10 (n / 10)) (n % 10 ∷ []) ∙ ap (λ w. w ++ ((48 + n % 10) ∷ [])) (sym (shown_is (n / 10) (omega arith)))
+    ∙ map-append (λ d. 48 + d) (digits_of 10 (n / 10)) (n % 10 ∷ []) ∙ ap (λ w. w ++ ((48 + n % 10) ∷ [])) (sym (shown_is (n / 10) (omega arith)))
 
 pub number_length : (n k : ℕ) → n < 10 ^ k → 1 ≤ k → length (written_number n) ≤ k
 number_length zero k h l = l
-number_length (suc n) k h l = subst (λ m. m ≤ k) (sym (length_map (digits_of 10 (suc n)) (λ d. 48 + d))) (length-digits_of-le 10 k (suc n) (omega arith) h)
+number_length (suc n) k h l = subst (λ m. m ≤ k) (sym (length-map (digits_of 10 (suc n)) (λ d. 48 + d))) (length-digits_of-le 10 k (suc n) (omega arith) h)
 
 pub put_here : (a : List ℕ) (to b : ℕ) → Put a (set a to b) to (b ∷ []) (to + 1)
 put_here a to b = record { bytes = refl; behind = refl }
