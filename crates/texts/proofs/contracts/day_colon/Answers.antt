@@ -12,9 +12,9 @@ returns-in-err-d c =
 pub returns-in-err-to : goal.returns-in-err-to
 returns-in-err-to c =
     let p = err_from_is_err_and c.from-residual-in-err-to.result c.from-residual-in-err-to.ensures.1 in
-    rw (p.1, p.2) (day_colon_stops (then_stops (by_end refl) c.in-ok-d.ensures.2 c.in-err-to.ensures))
+    rw (p.1, p.2) (day_colon_stops (then_stops (by_end refl) c.in_ok-d.ensures.2 c.in-err-to.ensures))
 
 pub returns : goal.returns
 returns c =
-    let d = c.in-ok-d.ensures in
-    (d.0, d.1, day_as (then_took (by_end refl) d.2 c.in-ok-to.ensures))
+    let d = c.in_ok-d.ensures in
+    (d.0, d.1, day_as (then_took (by_end refl) d.2 c.in_ok-to.ensures))

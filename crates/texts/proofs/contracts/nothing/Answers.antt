@@ -11,4 +11,4 @@ returns-in-err-to c =
     rw (p.1, p.2) (nothing_stops c.args.text.now c.args.at c.requires.opens (calm_stops c.in-err-to.ensures))
 
 pub returns : goal.returns
-returns c = (nothing, nothing_as c.args.text.now c.args.at c.requires.opens (calm_took c.in-ok-to.ensures), c.push.ensures, noted_took c.in-ok-to.ensures)
+returns c = (nothing, nothing_as c.args.text.now c.args.at c.requires.opens (calm_took c.in_ok-to.ensures), c.push.ensures, noted_took c.in_ok-to.ensures)

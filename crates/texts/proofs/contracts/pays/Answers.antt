@@ -19,26 +19,26 @@ returns-in-err-to c =
 pub returns-in-err-a : goal.returns-in-err-a
 returns-in-err-a c =
     let p = err_from_is_err_and c.from-residual-in-err-a.result c.from-residual-in-err-a.ensures.1 in
-    rw (p.1, p.2) (pays_stops c.args.text.now c.args.at c.requires.opens (then_stops free c.in-ok-to.ensures (stops_then (record { so = λ y w k d g. by_word w k d refl }) (tt, 0) (32 ∷ 48 ∷ []) ((32 ∷ []), (48 ∷ []), refl, some_number, refl) c.in-err-a.ensures)))
+    rw (p.1, p.2) (pays_stops c.args.text.now c.args.at c.requires.opens (then_stops free c.in_ok-to.ensures (stops_then (record { so = λ y w k d g. by_word w k d refl }) (tt, 0) (32 ∷ 48 ∷ []) ((32 ∷ []), (48 ∷ []), refl, some_number, refl) c.in-err-a.ensures)))
 
 pub returns-in-err-to-2 : goal.returns-in-err-to-2
 returns-in-err-to-2 c =
     let p = err_from_is_err_and c.from-residual-in-err-to-2.result c.from-residual-in-err-to-2.ensures.1 in
-    rw (p.1, p.2) (pays_stops c.args.text.now c.args.at c.requires.opens (then_stops free c.in-ok-to.ensures (then_stops (record { so = λ y w k d g. by_word w k d refl }) c.in-ok-a.ensures.2 (stops_then free 0 (48 ∷ []) some_number c.in-err-to-2.ensures))))
+    rw (p.1, p.2) (pays_stops c.args.text.now c.args.at c.requires.opens (then_stops free c.in_ok-to.ensures (then_stops (record { so = λ y w k d g. by_word w k d refl }) c.in_ok-a.ensures.2 (stops_then free 0 (48 ∷ []) some_number c.in-err-to-2.ensures))))
 
 pub returns-in-err-k : goal.returns-in-err-k
 returns-in-err-k c =
     let p = err_from_is_err_and c.from-residual-in-err-k.result c.from-residual-in-err-k.ensures.1 in
-    rw (p.1, p.2) (pays_stops c.args.text.now c.args.at c.requires.opens (then_stops free c.in-ok-to.ensures (then_stops (record { so = λ y w k d g. by_word w k d refl }) c.in-ok-a.ensures.2 (then_stops free c.in-ok-to-2.ensures c.in-err-k.ensures))))
+    rw (p.1, p.2) (pays_stops c.args.text.now c.args.at c.requires.opens (then_stops free c.in_ok-to.ensures (then_stops (record { so = λ y w k d g. by_word w k d refl }) c.in_ok-a.ensures.2 (then_stops free c.in_ok-to-2.ensures c.in-err-k.ensures))))
 
 pub returns : goal.returns
 returns c =
-    let a = c.in-ok-a.ensures in
-    let k = c.in-ok-k.ensures in
-    let fits : SFits w64 c.in-ok-a.a = search rules in (
+    let a = c.in_ok-a.ensures in
+    let k = c.in_ok-k.ensures in
+    let fits : SFits w64 c.in_ok-a.a = search rules in (
       pays k.0 a.0,
-      pays_as c.args.text.now c.args.at c.requires.opens (then_took free c.in-ok-to.ensures (then_took (record { so = λ y w k d g. by_word w k d refl }) c.in-ok-a.ensures.2 (then_took free c.in-ok-to-2.ensures (k.2)))),
-      rw (← k.1) (subst (λ v. Grown c.args.out.now c.push.new.self (Pays c.in-ok-k.k v ∷ [])) (to_z-of_z w64 c.in-ok-a.a fits ∙ a.1) c.push.ensures),
-      noted_then (noted_took c.in-ok-to.ensures) (noted_then (noted_took a.2) (noted_then (noted_took c.in-ok-to-2.ensures)
-          (noted_number (λ rs cs. cs) (λ rs cs ks h. subst (λ l. Counts c.note.new.self rs cs (ks ++ record { place = c.in-ok-to-2.to; limit = l; value = k.0 } ∷ [])) h.currencies_are (c.note.ensures rs cs k.0 ks h k.1)) k.2))),
+      pays_as c.args.text.now c.args.at c.requires.opens (then_took free c.in_ok-to.ensures (then_took (record { so = λ y w k d g. by_word w k d refl }) c.in_ok-a.ensures.2 (then_took free c.in_ok-to-2.ensures (k.2)))),
+      rw (← k.1) (subst (λ v. Grown c.args.out.now c.push.new.self (Pays c.in_ok-k.k v ∷ [])) (to_z-of_z w64 c.in_ok-a.a fits ∙ a.1) c.push.ensures),
+      noted_then (noted_took c.in_ok-to.ensures) (noted_then (noted_took a.2) (noted_then (noted_took c.in_ok-to-2.ensures)
+          (noted_number (λ rs cs. cs) (λ rs cs ks h. subst (λ l. Counts c.note.new.self rs cs (ks ++ record { place = c.in_ok-to-2.to; limit = l; value = k.0 } ∷ [])) h.currencies_are (c.note.ensures rs cs k.0 ks h k.1)) k.2))),
     )

@@ -14,12 +14,12 @@ returns-in-err-to c =
 pub returns-in-err-to-2 : goal.returns-in-err-to-2
 returns-in-err-to-2 c =
     let p = err_from_is_err_and c.from-residual-in-err-to-2.result c.from-residual-in-err-to-2.ensures.1 in
-    rw (p.1, p.2) (day_stops c.args.text.now c.args.at c.args.end c.requires.opens (then_stops free c.in-ok-to.ensures (calm_stops c.in-err-to-2.ensures)))
+    rw (p.1, p.2) (day_stops c.args.text.now c.args.at c.args.end c.requires.opens (then_stops free c.in_ok-to.ensures (calm_stops c.in-err-to-2.ensures)))
 
 pub returns : goal.returns
 returns c = (
   day,
-  day_as c.args.text.now c.args.at c.args.end c.requires.opens (then_took free c.in-ok-to.ensures (calm_took c.in-ok-to-2.ensures)),
+  day_as c.args.text.now c.args.at c.args.end c.requires.opens (then_took free c.in_ok-to.ensures (calm_took c.in_ok-to-2.ensures)),
   c.push.ensures,
-  noted_then (noted_took c.in-ok-to.ensures) (noted_took c.in-ok-to-2.ensures),
+  noted_then (noted_took c.in_ok-to.ensures) (noted_took c.in_ok-to-2.ensures),
 )

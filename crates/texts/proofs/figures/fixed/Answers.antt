@@ -17,14 +17,14 @@ returns-in-err-a c =
 pub returns-in-err-to : goal.returns-in-err-to
 returns-in-err-to c =
     let p = err_from_is_err_and c.from-residual-in-err-to.result c.from-residual-in-err-to.ensures.1 in
-    rw (p.1, p.2) (fixed_stops c.args.text.now c.args.at c.args.end c.requires.opens (then_stops (by_end c.requires.plain) c.in-ok-a.ensures.2 (calm_stops c.in-err-to.ensures)))
+    rw (p.1, p.2) (fixed_stops c.args.text.now c.args.at c.args.end c.requires.opens (then_stops (by_end c.requires.plain) c.in_ok-a.ensures.2 (calm_stops c.in-err-to.ensures)))
 
 pub returns : goal.returns
 returns c =
-    let a = c.in-ok-a.ensures in
-    let fits : SFits w64 c.in-ok-a.a = search rules in (
+    let a = c.in_ok-a.ensures in
+    let fits : SFits w64 c.in_ok-a.a = search rules in (
       fixed a.0,
-      fixed_as c.args.text.now c.args.at c.args.end c.requires.opens (then_took (by_end c.requires.plain) a.2 (calm_took c.in-ok-to.ensures)),
-      subst (λ v. Grown c.args.out.now c.push.new.self (Fixed v ∷ [])) (to_z-of_z w64 c.in-ok-a.a fits ∙ a.1) c.push.ensures,
-      noted_then (noted_took a.2) (noted_took c.in-ok-to.ensures),
+      fixed_as c.args.text.now c.args.at c.args.end c.requires.opens (then_took (by_end c.requires.plain) a.2 (calm_took c.in_ok-to.ensures)),
+      subst (λ v. Grown c.args.out.now c.push.new.self (Fixed v ∷ [])) (to_z-of_z w64 c.in_ok-a.a fits ∙ a.1) c.push.ensures,
+      noted_then (noted_took a.2) (noted_took c.in_ok-to.ensures),
     )

@@ -15,21 +15,21 @@ returns-in-err-to c =
 pub returns-in-err-k : goal.returns-in-err-k
 returns-in-err-k c =
     let p = err_from_is_err_and c.from-residual-in-err-k.result c.from-residual-in-err-k.ensures.1 in
-    rw (p.1, p.2) (rate_stops c.args.text.now c.args.at c.args.end c.requires.opens (then_stops free c.in-ok-to.ensures (stops_then (by_rate_end c.requires.plain) 0 (c.args.end ∷ []) (inr (refl, refl)) c.in-err-k.ensures)))
+    rw (p.1, p.2) (rate_stops c.args.text.now c.args.at c.args.end c.requires.opens (then_stops free c.in_ok-to.ensures (stops_then (by_rate_end c.requires.plain) 0 (c.args.end ∷ []) (inr (refl, refl)) c.in-err-k.ensures)))
 
 pub returns-in-err-n : goal.returns-in-err-n
 returns-in-err-n c =
     let p = err_from_is_err_and c.from-residual-in-err-n.result c.from-residual-in-err-n.ensures.1 in
-    rw (p.1, p.2) (rate_stops c.args.text.now c.args.at c.args.end c.requires.opens (then_stops free c.in-ok-to.ensures (then_stops (by_rate_end c.requires.plain) c.in-ok-k.ensures.2 c.in-err-n.ensures)))
+    rw (p.1, p.2) (rate_stops c.args.text.now c.args.at c.args.end c.requires.opens (then_stops free c.in_ok-to.ensures (then_stops (by_rate_end c.requires.plain) c.in_ok-k.ensures.2 c.in-err-n.ensures)))
 
 pub returns : goal.returns
 returns c =
-    let k = c.in-ok-k.ensures in
-    let n = c.in-ok-n.ensures in (
+    let k = c.in_ok-k.ensures in
+    let n = c.in_ok-n.ensures in (
       rate k.0 n.0,
-      rate_as c.args.text.now c.args.at c.args.end c.requires.opens (then_took free c.in-ok-to.ensures (then_took (by_rate_end c.requires.plain) k.2 n.2)),
+      rate_as c.args.text.now c.args.at c.args.end c.requires.opens (then_took free c.in_ok-to.ensures (then_took (by_rate_end c.requires.plain) k.2 n.2)),
       rw (← k.1, ← n.1) c.push.ensures,
       noted_map (rate_numerals k.0 n.0 c.args.end)
-          (noted_then (noted_took c.in-ok-to.ensures)
-          (noted_then (noted_number (λ rs cs. rs) (λ rs cs ks h. subst (λ l. Counts c.note.new.self rs cs (ks ++ record { place = c.in-ok-to.to; limit = l; value = k.0 } ∷ [])) h.rates_are (c.note.ensures rs cs k.0 ks h k.1)) k.2) n.3)),
+          (noted_then (noted_took c.in_ok-to.ensures)
+          (noted_then (noted_number (λ rs cs. rs) (λ rs cs ks h. subst (λ l. Counts c.note.new.self rs cs (ks ++ record { place = c.in_ok-to.to; limit = l; value = k.0 } ∷ [])) h.rates_are (c.note.ensures rs cs k.0 ks h k.1)) k.2) n.3)),
     )

@@ -11,47 +11,47 @@ use Rattle.texts.proofs.figures.rate_end.Goals as goal
 pub returns-in-err-to : goal.returns-in-err-to
 returns-in-err-to c =
     let p = err_from_is_err_and c.from-residual.result c.from-residual.ensures.1 in
-    rw (p.1, p.2) (end_stops c.args.text.now c.args.at _ c.args.end (λ e. c.if-byte-at-ne32.true (c.byte-at.ensures ∙ e)) c.in-err-to.ensures)
+    rw (p.1, p.2) (end_stops c.args.text.now c.args.at _ c.args.end (λ e. c.if-byte_at-ne32.true (c.byte_at.ensures ∙ e)) c.in-err-to.ensures)
 
 pub returns-then-byte-at-ne32 : goal.returns-then-byte-at-ne32
 returns-then-byte-at-ne32 c = (
   0,
   refl,
-  end_took c.args.text.now c.args.at c.in-ok-to.to c.args.end (λ e. c.if-byte-at-ne32.true (c.byte-at.ensures ∙ e)) c.in-ok-to.ensures,
+  end_took c.args.text.now c.args.at c.in-ok-to.to c.args.end (λ e. c.if-byte_at-ne32.true (c.byte_at.ensures ∙ e)) c.in-ok-to.ensures,
   noted_map (λ rs cs w ns h. inr (refl, h)) (noted_took c.in-ok-to.ensures),
 )
 
 pub returns-then-not-asks-number : goal.returns-then-not-asks-number
 returns-then-not-asks-number c =
-    let f = when_false _ _ c.if-not-asks-number.true c.asks-number.ensures in (
+    let f = when_false _ _ c.if-not-asks_number.true c.asks_number.ensures in (
       0,
       refl,
       subst (λ e. Took NoDigit (RateEnding e) c.args.text.now c.args.at (c.args.at + 1) 0) (sym f.0)
-          (space_took c.args.text.now c.args.at (sym c.byte-at.ensures ∙ c.if-byte-at-ne32.false) f.1),
-      noted_map (λ rs cs w ns h. inr (refl, h)) (noted_took (byte_took c.args.text.now c.args.at c.args.end (sym c.byte-at.ensures ∙ c.if-byte-at-ne32.false ∙ sym f.0) (omega (arith, f.0)))),
+          (space_took c.args.text.now c.args.at (sym c.byte_at.ensures ∙ c.if-byte_at-ne32.false) f.1),
+      noted_map (λ rs cs w ns h. inr (refl, h)) (noted_took (byte_took c.args.text.now c.args.at c.args.end (sym c.byte_at.ensures ∙ c.if-byte_at-ne32.false ∙ sym f.0) (omega (arith, f.0)))),
     )
 
 pub number-requires : goal.number-requires
 number-requires c =
-    let near = byte_within c.args.text.now c.args.at 32 (sym c.byte-at.ensures ∙ c.if-byte-at-ne32.false) (omega arith) in
+    let near = byte_within c.args.text.now c.args.at 32 (sym c.byte_at.ensures ∙ c.if-byte_at-ne32.false) (omega arith) in
     omega arith
 
 pub returns-in-err-n : goal.returns-in-err-n
 returns-in-err-n c =
     let p = err_from_is_err_and c.from-residual-in-err-n.result c.from-residual-in-err-n.ensures.1 in
-    rw (p.1, p.2) (n_stops c.args.text.now c.args.at _ c.args.end (sym c.byte-at.ensures ∙ c.if-byte-at-ne32.false) (when_true _ _ c.if-not-asks-number.false c.asks-number.ensures) c.requires.plain c.in-err-n.ensures)
+    rw (p.1, p.2) (n_stops c.args.text.now c.args.at _ c.args.end (sym c.byte_at.ensures ∙ c.if-byte_at-ne32.false) (when_true _ _ c.if-not-asks_number.false c.asks_number.ensures) c.requires.plain c.in-err-n.ensures)
 
 pub returns-in-err-to-2 : goal.returns-in-err-to-2
 returns-in-err-to-2 c =
     let p = err_from_is_err_and c.from-residual-in-err-to-2.result c.from-residual-in-err-to-2.ensures.1 in
-    let n = c.in-ok-n.ensures in
-    rw (p.1, p.2) (n_stops_end c.args.text.now c.args.at _ c.args.end (sym c.byte-at.ensures ∙ c.if-byte-at-ne32.false) (when_true _ _ c.if-not-asks-number.false c.asks-number.ensures) c.requires.plain n.0 _ n.2 c.in-err-to-2.ensures)
+    let n = c.in_ok-n.ensures in
+    rw (p.1, p.2) (n_stops_end c.args.text.now c.args.at _ c.args.end (sym c.byte_at.ensures ∙ c.if-byte_at-ne32.false) (when_true _ _ c.if-not-asks_number.false c.asks_number.ensures) c.requires.plain n.0 _ n.2 c.in-err-to-2.ensures)
 
 pub returns : goal.returns
 returns c =
-    let n = c.in-ok-n.ensures in (
+    let n = c.in_ok-n.ensures in (
       n.0,
       n.1,
-      n_took c.args.text.now c.args.at c.in-ok-to-2.to c.args.end (sym c.byte-at.ensures ∙ c.if-byte-at-ne32.false) (when_true _ _ c.if-not-asks-number.false c.asks-number.ensures) c.requires.plain n.0 _ n.2 c.in-ok-to-2.ensures,
-      noted_map (λ rs cs w ns h. inl h) (noted_then (noted_took (byte_took c.args.text.now c.args.at 32 (sym c.byte-at.ensures ∙ c.if-byte-at-ne32.false) (omega arith))) (noted_then (noted_number (λ _ _. 4097) (λ rs cs ks h. c.note.ensures rs cs n.0 ks h n.1) n.2) (noted_took c.in-ok-to-2.ensures))),
+      n_took c.args.text.now c.args.at c.in_ok-to-2.to c.args.end (sym c.byte_at.ensures ∙ c.if-byte_at-ne32.false) (when_true _ _ c.if-not-asks_number.false c.asks_number.ensures) c.requires.plain n.0 _ n.2 c.in_ok-to-2.ensures,
+      noted_map (λ rs cs w ns h. inl h) (noted_then (noted_took (byte_took c.args.text.now c.args.at 32 (sym c.byte_at.ensures ∙ c.if-byte_at-ne32.false) (omega arith))) (noted_then (noted_number (λ _ _. 4097) (λ rs cs ks h. c.note.ensures rs cs n.0 ks h n.1) n.2) (noted_took c.in_ok-to-2.ensures))),
     )

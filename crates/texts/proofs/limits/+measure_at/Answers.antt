@@ -28,8 +28,8 @@ returns-then-pair t c =
     let scale = c.in-Some-scale.ensures.low in
     record {
       is = grind (arith, nat_tests, measured_step);
-      low = together_low c.args.nodes.now c.args.at c.in-Some-scale.next c.moderate-then-pair.result (get_or c.args.nodes.now c.args.at Nothing) c.in-Some-measure-at.x c.in-Some-measure-at-2.y
-          c.in-Some-measure-at.ensures.low c.in-Some-measure-at-2.ensures.low (omega arith) (c.moderate-then-pair.ensures ∙ ap bounded c.both.ensures);
+      low = together_low c.args.nodes.now c.args.at c.in-Some-scale.next c.moderate-then-pair.result (get_or c.args.nodes.now c.args.at Nothing) c.in-Some-measure_at.x c.in-Some-measure_at-2.y
+          c.in-Some-measure_at.ensures.low c.in-Some-measure_at-2.ensures.low (omega arith) (c.moderate-then-pair.ensures ∙ ap bounded c.both.ensures);
     }
 
 pub returns-in-default-under : goal.returns-in-default-under
@@ -40,6 +40,6 @@ returns t c =
     let scale = c.in-Some-scale.ensures.low in
     record {
       is = grind (arith, nat_tests, measured_step);
-      low = alone_low c.args.nodes.now c.args.at c.in-Some-scale.next c.in-Some-scale.size c.moderate-2.result (get_or c.args.nodes.now c.args.at Nothing) c.in-Some-measure-at.x c.in-Some-under.m
-          c.in-Some-measure-at.ensures.low (omega arith) (sym c.under.ensures ∙ c.in-Some-under.is) c.moderate-2.ensures;
+      low = alone_low c.args.nodes.now c.args.at c.in-Some-scale.next c.in-Some-scale.size c.moderate-2.result (get_or c.args.nodes.now c.args.at Nothing) c.in-Some-measure_at.x c.in-Some-under.m
+          c.in-Some-measure_at.ensures.low (omega arith) (sym c.under.ensures ∙ c.in-Some-under.is) c.moderate-2.ensures;
     }

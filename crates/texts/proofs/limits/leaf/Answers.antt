@@ -7,7 +7,7 @@ use Rattle.texts.proofs.limits.leaf.Goals as goal
 pub returns-in-Fixed : goal.returns-in-Fixed
 returns-in-Fixed c =
     let fits : SFits w64 c.in-Fixed.a = search rules in
-    ap (λ n. Some n) (c.unsigned-abs.ensures.value ∙ ap nat_abs (to_z-of_z w64 c.in-Fixed.a fits)) ∙ sym (ap leaf_size c.in-Fixed.is)
+    ap (λ n. Some n) (c.unsigned_abs.ensures.value ∙ ap nat_abs (to_z-of_z w64 c.in-Fixed.a fits)) ∙ sym (ap leaf_size c.in-Fixed.is)
 
 pub returns-in-Rate : goal.returns-in-Rate
 returns-in-Rate c = sym (ap leaf_size c.in-Rate.is)

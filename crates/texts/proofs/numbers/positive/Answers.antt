@@ -13,27 +13,27 @@ returns-then-first-eq0 c = positive_stops c.args.text.now c.args.at c.requires (
 
 pub loop-d-smaller : goal.loop-d-smaller
 loop-d-smaller c =
-    let near = digit_within c.args.text.now c.loop-d.to c.in-Some-digit-at.ensures.0 in
+    let near = digit_within c.args.text.now c.loop-d.to c.in-Some-digit_at.ensures.0 in
     omega arith
 
 pub loop-d-preserved : goal.loop-d-preserved
 loop-d-preserved c =
-    let here = c.in-Some-digit-at.ensures in
+    let here = c.in-Some-digit_at.ensures in
     let near = digit_within c.args.text.now c.loop-d.to here.0 in
     let sofar = spelt 0 (between c.args.at c.loop-d.to c.args.text.now) in
-    let d : byte_at c.args.text.now c.loop-d.to - 48 ≡ c.in-Some-digit-at.d = omega (arith, here.1) in (
+    let d : byte_at c.args.text.now c.loop-d.to - 48 ≡ c.in-Some-digit_at.d = omega (arith, here.1) in (
       omega arith,
       omega arith,
       digits_more c.args.text.now c.args.at c.loop-d.to c.loop-d.invariant.0 near c.loop-d.invariant.2 here.0,
-      c.saturating-add-value.ensures
-          ∙ capped_more sofar c.in-Some-digit-at.d c.loop-d.value c.saturating-mul.result c.loop-d.invariant.3 c.saturating-mul.ensures
+      c.saturating_add-value.ensures
+          ∙ capped_more sofar c.in-Some-digit_at.d c.loop-d.value c.saturating_mul.result c.loop-d.invariant.3 c.saturating_mul.ensures
           ∙ ap capped (ap (λ n. sofar * 10 + n) (sym d) ∙ sym (spelt_more c.args.text.now c.args.at c.loop-d.to c.loop-d.invariant.0 near)),
     )
 
 pub returns : goal.returns
 returns c =
     let first = c.in-Some.ensures in
-    let last = c.in-default-digit-at.ensures in
+    let last = c.in_default-digit_at.ensures in
     let text = c.args.text.now in
     let moved : c.args.at ≡ c.loop-d.to → ⊥ = λ e. clash (digit (byte_at text c.args.at)) first.0 (ap (λ i. digit (byte_at text i)) e ∙ last) in
     let less : c.args.at < c.loop-d.to = grind (arith, moved, c.loop-d.invariant.0) in

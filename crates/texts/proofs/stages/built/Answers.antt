@@ -7,4 +7,4 @@ use Rattle.texts.proofs.stages.built.Goals as goal
 
 pub returns-in-Thin : goal.returns-in-Thin
 returns-in-Thin c x h few =
-    c.all-known.ensures ∙ ap all_thin (c.row.ensures.all (nodes_of x) h (omega (arith, nodes_length x))) ∙ thin_nodes x ∙ sym (ap (λ s. built_at s x) c.in-Thin.is)
+    c.all_known.ensures ∙ ap all_thin (c.row.ensures.all (nodes_of x) h (omega (arith, nodes_length x))) ∙ thin_nodes x ∙ sym (ap (λ s. built_at s x) c.in-Thin.is)

@@ -10,12 +10,12 @@ returns c =
 
 pub returns-then-byte-at-b : goal.returns-then-byte-at-b
 returns-then-byte-at-b c =
-    word_stops c.args.text.now c.args.expected.now c.args.at c.loop-b.to c.loop-b.b-index (omega arith) c.loop-b.invariant.1 c.loop-b-test.true c.loop-b.invariant.2 (λ e. c.if-byte-at-b.true (c.byte-at.ensures ∙ e))
+    word_stops c.args.text.now c.args.expected.now c.args.at c.loop-b.to c.loop-b.b-index (omega arith) c.loop-b.invariant.1 c.loop-b-test.true c.loop-b.invariant.2 (λ e. c.if-byte_at-b.true (c.byte_at.ensures ∙ e))
 
 pub loop-b-preserved : goal.loop-b-preserved
 loop-b-preserved c =
-    let small : c.byte-at.result < 256 = omega (arith, c.type-inv.expected c.loop-b.b-index, c.if-byte-at-b.false) in
-    let near = byte_within c.args.text.now c.loop-b.to c.byte-at.result (sym c.byte-at.ensures) small in
+    let small : c.byte_at.result < 256 = omega (arith, c.type_inv.expected c.loop-b.b-index, c.if-byte_at-b.false) in
+    let near = byte_within c.args.text.now c.loop-b.to c.byte_at.result (sym c.byte_at.ensures) small in
     let more = between_more c.args.text.now c.args.at c.loop-b.to 256 (omega arith) near in
     let same = take_more c.args.expected.now c.loop-b.b-index 0 c.loop-b-test.true in
     (omega arith, omega arith, more ∙ (cc) ∙ sym same)

@@ -8,9 +8,9 @@ returns-then-n-lt10 t c =
     subst (λ w. Put c.args.out.now c.put-byte.new.out c.args.to w c.put-byte.result) (sym (small_number c.args.n c.if-n-lt10.true)) c.put-byte.ensures
 
 pub put-byte-requires-2 : goal.put-byte-requires-2
-put-byte-requires-2 t c = omega (arith, c.put-number-next.ensures.behind, word_length (c.args.n / 10) (omega arith))
+put-byte-requires-2 t c = omega (arith, c.put_number-next.ensures.behind, word_length (c.args.n / 10) (omega arith))
 
 pub returns : goal.returns
 returns t c =
-    subst (λ w. Put c.args.out.now c.put-byte-2.new.out c.args.to w c.put-byte-2.result) (sym (large_number c.args.n c.if-n-lt10.false))
-    (put_then c.put-number-next.ensures c.put-byte-2.ensures)
+    subst (λ w. Put c.args.out.now c.put_byte-2.new.out c.args.to w c.put_byte-2.result) (sym (large_number c.args.n c.if-n-lt10.false))
+    (put_then c.put_number-next.ensures c.put_byte-2.ensures)

@@ -31,10 +31,10 @@ returns-in-default-write-at t c = grind (arith, nat_tests, contract_step)
 pub returns-then-not-pair : goal.returns-then-not-pair
 returns-then-not-pair t c =
     let f = c.in-Some.ensures in
-    let s = c.in-Some-write-scale.ensures in
-    let x = c.in-Some-write-at.ensures in
+    let s = c.in-Some-write_scale.ensures in
+    let x = c.in-Some-write_at.ensures in
     let node = get_or c.args.nodes.now c.args.at Nothing in
-    let e : Put c.write-at.new.out c.put-word.new.out c.in-Some-write-at.next (behind_word node) c.put-word.result = put_as c.ending.ensures c.put-word.ensures in
+    let e : Put c.write-at.new.out c.put-word.new.out c.in-Some-write_at.next (behind_word node) c.put-word.result = put_as c.ending.ensures c.put-word.ensures in
     record {
       text = f.word ++ (s.text ++ (x.text ++ behind_word node));
       is = grind (arith, nat_tests, contract_step);
@@ -50,13 +50,13 @@ returns-in-default-write-at-2 t c = grind (arith, nat_tests, contract_step)
 pub returns : goal.returns
 returns t c =
     let f = c.in-Some.ensures in
-    let s = c.in-Some-write-scale.ensures in
-    let x = c.in-Some-write-at.ensures in
-    let y = c.in-Some-write-at-2.ensures in
+    let s = c.in-Some-write_scale.ensures in
+    let x = c.in-Some-write_at.ensures in
+    let y = c.in-Some-write_at-2.ensures in
     let node = get_or c.args.nodes.now c.args.at Nothing in
-    let m : Put c.write-at.new.out c.put-word-next.new.out c.in-Some-write-at.next (between_word node) c.put-word-next.result =
+    let m : Put c.write-at.new.out c.put-word-next.new.out c.in-Some-write_at.next (between_word node) c.put-word-next.result =
     put_as c.middle.ensures c.put-word-next.ensures in
-    let e : Put c.write-at-2.new.out c.put-word-2.new.out c.in-Some-write-at-2.next (behind_word node) c.put-word-2.result =
+    let e : Put c.write-at-2.new.out c.put-word-2.new.out c.in-Some-write_at-2.next (behind_word node) c.put-word-2.result =
     put_as c.ending-2.ensures c.put-word-2.ensures in
     record {
       text = f.word ++ (s.text ++ (x.text ++ (between_word node ++ (y.text ++ behind_word node))));

@@ -1,4 +1,4 @@
 use Rattle.texts.proofs.writing.+write_at.Given as goal
 
-abbrev pub decreases-write-at : goal.decreases-write-at
-decreases-write-at l = l.falling
+abbrev pub decreases-write_at : goal.decreases-write_at
+decreases-write_at l = l.falling

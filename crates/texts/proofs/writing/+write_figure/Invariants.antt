@@ -1,4 +1,4 @@
 use Rattle.texts.proofs.writing.+write_figure.Given as goal
 
-abbrev pub decreases-write-figure : goal.decreases-write-figure
-decreases-write-figure l = l.falling
+abbrev pub decreases-write_figure : goal.decreases-write_figure
+decreases-write_figure l = l.falling

@@ -28,7 +28,7 @@ returns-else-not-held c =
     record {
       word = codes "pays " ++ (written_amount c.in-Pays.a ++ (codes " " ++ written_number c.in-Pays.k));
       is = ap first_word c.in-Pays.is ∙ first_pays c.in-Pays.k c.in-Pays.a k small;
-      put = simp to_z-of_z at c.put-pays.ensures;
+      put = simp to_z-of_z at c.put_pays.ensures;
       short = pays_short c.in-Pays.k c.in-Pays.a k (omega (arith, small));
     }
 
@@ -40,7 +40,7 @@ returns-else-not-held-2 c =
     record {
       word = written_amount c.in-Fixed.a;
       is = ap first_word c.in-Fixed.is ∙ first_fixed c.in-Fixed.a small;
-      put = simp to_z-of_z at c.put-amount.ensures;
+      put = simp to_z-of_z at c.put_amount.ensures;
       short = let l = amount_length c.in-Fixed.a (omega (arith, small)) in omega arith;
     }
 
@@ -48,14 +48,14 @@ pub returns-in-Rate : goal.returns-in-Rate
 returns-in-Rate c =
     let k : c.in-Rate.k < 18446744073709551616 = omega arith in
     let n : c.in-Rate.n < 18446744073709551616 = omega arith in
-    record { word = _; is = ap first_word c.in-Rate.is ∙ first_rate c.in-Rate.k c.in-Rate.n k n; put = c.put-rate.ensures; short = rate_short c.in-Rate.k c.in-Rate.n k n }
+    record { word = _; is = ap first_word c.in-Rate.is ∙ first_rate c.in-Rate.k c.in-Rate.n k n; put = c.put_rate.ensures; short = rate_short c.in-Rate.k c.in-Rate.n k n }
 
 pub returns-in-On : goal.returns-in-On
 returns-in-On c =
     let d : c.in-On.d < 18446744073709551616 = omega arith in
-    record { word = _; is = ap first_word c.in-On.is ∙ first_on c.in-On.d d; put = c.put-day.ensures; short = day_short (codes "on ") c.in-On.d (omega arith) d }
+    record { word = _; is = ap first_word c.in-On.is ∙ first_on c.in-On.d d; put = c.put_day.ensures; short = day_short (codes "on ") c.in-On.d (omega arith) d }
 
 pub returns-in-By : goal.returns-in-By
 returns-in-By c =
     let d : c.in-By.d < 18446744073709551616 = omega arith in
-    record { word = _; is = ap first_word c.in-By.is ∙ first_by c.in-By.d d; put = c.put-day-in-By.ensures; short = day_short (codes "by ") c.in-By.d (omega arith) d }
+    record { word = _; is = ap first_word c.in-By.is ∙ first_by c.in-By.d d; put = c.put_day-in-By.ensures; short = day_short (codes "by ") c.in-By.d (omega arith) d }

@@ -8,17 +8,17 @@ use Rattle.texts.proofs.writing.put_pays.Goals as goal
 pub put-word-next-requires-2 : goal.put-word-next-requires-2
 put-word-next-requires-2 c =
     let fits = c.ranges.a in
-    let p : Put c.put-word-next.new.out c.put-amount-next.new.out c.put-word-next.result (written_amount c.args.a) c.put-amount-next.result = simp to_z-of_z at c.put-amount-next.ensures in
-    omega (arith, p.behind, amount_length c.args.a (natAbs_small c.args.a fits), c.put-word-next.ensures.behind)
+    let p : Put c.put_word-next.new.out c.put_amount-next.new.out c.put_word-next.result (written_amount c.args.a) c.put_amount-next.result = simp to_z-of_z at c.put_amount-next.ensures in
+    omega (arith, p.behind, amount_length c.args.a (natAbs_small c.args.a fits), c.put_word-next.ensures.behind)
 
 pub put-number-requires : goal.put-number-requires
 put-number-requires c =
     let fits = c.ranges.a in
-    let p : Put c.put-word-next.new.out c.put-amount-next.new.out c.put-word-next.result (written_amount c.args.a) c.put-amount-next.result = simp to_z-of_z at c.put-amount-next.ensures in
-    omega (arith, p.behind, amount_length c.args.a (natAbs_small c.args.a fits), c.put-word-next.ensures.behind, c.put-word-next-2.ensures.behind)
+    let p : Put c.put_word-next.new.out c.put_amount-next.new.out c.put_word-next.result (written_amount c.args.a) c.put_amount-next.result = simp to_z-of_z at c.put_amount-next.ensures in
+    omega (arith, p.behind, amount_length c.args.a (natAbs_small c.args.a fits), c.put_word-next.ensures.behind, c.put_word-next-2.ensures.behind)
 
 pub returns : goal.returns
 returns c =
     let fits = c.ranges.a in
-    let p : Put c.put-word-next.new.out c.put-amount-next.new.out c.put-word-next.result (written_amount c.args.a) c.put-amount-next.result = simp to_z-of_z at c.put-amount-next.ensures in
-    put_then c.put-word-next.ensures (put_then p (put_then c.put-word-next-2.ensures c.put-number.ensures))
+    let p : Put c.put_word-next.new.out c.put_amount-next.new.out c.put_word-next.result (written_amount c.args.a) c.put_amount-next.result = simp to_z-of_z at c.put_amount-next.ensures in
+    put_then c.put_word-next.ensures (put_then p (put_then c.put_word-next-2.ensures c.put_number.ensures))

@@ -3,16 +3,16 @@ use Rattle.texts.proofs.Laying.{put_then, word_length, put_rate_none, put_rate_s
 use Rattle.texts.proofs.writing.put_rate.Goals as goal
 
 pub returns-then-n-eq0 : goal.returns-then-n-eq0
-returns-then-n-eq0 c = put_rate_none c.args.k c.args.n c.if-n-eq0.true (put_then c.put-word-next.ensures c.put-number-next.ensures)
+returns-then-n-eq0 c = put_rate_none c.args.k c.args.n c.if-n-eq0.true (put_then c.put_word-next.ensures c.put_number-next.ensures)
 
 pub put-word-next-requires-2 : goal.put-word-next-requires-2
-put-word-next-requires-2 c = omega (arith, c.put-number-next.ensures.behind, word_length c.args.k (omega arith), c.put-word-next.ensures.behind)
+put-word-next-requires-2 c = omega (arith, c.put_number-next.ensures.behind, word_length c.args.k (omega arith), c.put_word-next.ensures.behind)
 
 pub put-number-requires : goal.put-number-requires
 put-number-requires c =
-    omega (arith, c.put-number-next.ensures.behind, word_length c.args.k (omega arith), c.put-word-next.ensures.behind, c.put-word-next-2.ensures.behind)
+    omega (arith, c.put_number-next.ensures.behind, word_length c.args.k (omega arith), c.put_word-next.ensures.behind, c.put_word-next-2.ensures.behind)
 
 pub returns : goal.returns
 returns c =
     put_rate_some c.args.k c.args.n c.if-n-eq0.false
-    (put_then c.put-word-next.ensures (put_then c.put-number-next.ensures (put_then c.put-word-next-2.ensures c.put-number.ensures)))
+    (put_then c.put_word-next.ensures (put_then c.put_number-next.ensures (put_then c.put_word-next-2.ensures c.put_number.ensures)))

@@ -9,7 +9,7 @@ loop-b-init c = put_none c.args.out.now c.args.to
 
 pub loop-b-preserved : goal.loop-b-preserved
 loop-b-preserved c =
-    put_more c.args.out.now c.loop-b.out c.put-byte-next.new.out c.args.word.now c.args.to c.loop-b.b-index c.loop-b.next c.put-byte-next.result c.loop-b-test.true c.loop-b.invariant c.put-byte-next.ensures
+    put_more c.args.out.now c.loop-b.out c.put_byte-next.new.out c.args.word.now c.args.to c.loop-b.b-index c.loop-b.next c.put_byte-next.result c.loop-b-test.true c.loop-b.invariant c.put_byte-next.ensures
 
 pub returns : goal.returns
 returns c = subst (λ w. Put c.args.out.now c.loop-b.out c.args.to w c.loop-b.next) (take_all c.loop-b.b-index c.args.word.now (omega arith)) c.loop-b.invariant

@@ -23,8 +23,8 @@ returns c =
     let s = c.in-Some.ensures in
     let r = row_of c.row-nodes.result.now s.0 c.row-nodes.ensures.few s.1 in
     let held = c.row-nodes.ensures.held (row_some c.row-nodes.result.now s.0 (length c.row-nodes.result.now) s.1) in
-    let bytes = wrote_out (contract_spelled c.row-nodes.result.now 256 0) c.args.out.now c.write-at.new.out 0 0 (length c.row-nodes.result.now) (length c.row-nodes.result.now) s.0
-    c.write-at.result c.write-at.ensures s.1 in
+    let bytes = wrote_out (contract_spelled c.row-nodes.result.now 256 0) c.args.out.now c.write_at.new.out 0 0 (length c.row-nodes.result.now) (length c.row-nodes.result.now) s.0
+    c.write_at.result c.write_at.ensures s.1 in
     let room : 0 + length s.0 ≤ length c.args.out.now = omega (arith, s.2) in
     let count : 0 + length s.0 ≡ c.in-Some.long = omega (arith, s.2) in
     record {
