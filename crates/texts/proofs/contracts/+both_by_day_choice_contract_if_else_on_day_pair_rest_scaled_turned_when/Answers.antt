@@ -12,220 +12,220 @@ use Rattle.texts.specs.Text.{exactly}
 use Rattle.texts.specs.Bounds.{plain, numeral, ◌next◌, FigureNumerals, ContractNumerals}
 use Rattle.texts.proofs.Notes.{noted_then, noted_map, noted_took, noted_day, next_map, next_end, next_right}
 
-pub turned-returns-in-err-to : goal.turned-returns-in-err-to
-turned-returns-in-err-to t c =
-    let p = err_from_is_err_and c.from-residual.result c.from-residual.ensures.1 in
-    rw (p.1, p.2) (turned_stops c.args.text.now c.args.at c.requires.opens (stops_then free (nothing, tt) (110 ∷ 111 ∷ 116 ∷ 104 ∷ 105 ∷ 110 ∷ 103 ∷ 41 ∷ []) ((110 ∷ 111 ∷ 116 ∷ 104 ∷ 105 ∷ 110 ∷ 103 ∷ []), (41 ∷ []), refl, refl, refl) c.in-err-to.ensures))
+pub turned-returns-in_err-to : goal.turned-returns-in_err-to
+turned-returns-in_err-to t c =
+    let p = err_from_is_err_and c.from_residual.result c.from_residual.ensures.1 in
+    rw (p.1, p.2) (turned_stops c.args.text.now c.args.at c.requires.opens (stops_then free (nothing, tt) (110 ∷ 111 ∷ 116 ∷ 104 ∷ 105 ∷ 110 ∷ 103 ∷ 41 ∷ []) ((110 ∷ 111 ∷ 116 ∷ 104 ∷ 105 ∷ 110 ∷ 103 ∷ []), (41 ∷ []), refl, refl, refl) c.in_err-to.ensures))
 
-pub turned-returns-in-err-to-2 : goal.turned-returns-in-err-to-2
-turned-returns-in-err-to-2 t c =
-    let p = err_from_is_err_and c.from-residual-in-err-to-2.result c.from-residual-in-err-to-2.ensures.1 in
-    rw (p.1, p.2) (turned_stops c.args.text.now c.args.at c.requires.opens (then_stops free c.in-ok-to.ensures (stops_then (by_end refl) tt (41 ∷ []) refl c.in-err-to-2.ensures)))
+pub turned-returns-in_err-to-2 : goal.turned-returns-in_err-to-2
+turned-returns-in_err-to-2 t c =
+    let p = err_from_is_err_and c.from_residual-in_err-to-2.result c.from_residual-in_err-to-2.ensures.1 in
+    rw (p.1, p.2) (turned_stops c.args.text.now c.args.at c.requires.opens (then_stops free c.in_ok-to.ensures (stops_then (by_end refl) tt (41 ∷ []) refl c.in_err-to-2.ensures)))
 
 pub turned-returns : goal.turned-returns
 turned-returns t c =
-    let x = c.in-ok-to-2.ensures in
-    MatchResult-weaker c.word_2.result c.word_2.ensures
+    let x = c.in_ok-to-2.ensures in
+    MatchResult-weaker c.word-2.result c.word-2.ensures
     (λ to h. (
       turned x.0,
-      turned_as c.args.text.now c.args.at c.requires.opens (then_took free c.in-ok-to.ensures (then_took (by_end refl) c.in-ok-to-2.ensures.1 (calm_took (h)))),
+      turned_as c.args.text.now c.args.at c.requires.opens (then_took free c.in_ok-to.ensures (then_took (by_end refl) c.in_ok-to-2.ensures.1 (calm_took (h)))),
       grown_then (Turned ∷ []) (nodes_of x.0) c.push.ensures x.2,
-      noted_then (noted_took c.in-ok-to.ensures) (noted_then x.3 (noted_took h)),
+      noted_then (noted_took c.in_ok-to.ensures) (noted_then x.3 (noted_took h)),
     ))
-    (λ to h. turned_stops c.args.text.now c.args.at c.requires.opens (then_stops free c.in-ok-to.ensures (then_stops (by_end refl) c.in-ok-to-2.ensures.1 (calm_stops h))))
+    (λ to h. turned_stops c.args.text.now c.args.at c.requires.opens (then_stops free c.in_ok-to.ensures (then_stops (by_end refl) c.in_ok-to-2.ensures.1 (calm_stops h))))
 
-pub pair-rest-returns-in-err-to : goal.pair-rest-returns-in-err-to
-pair-rest-returns-in-err-to t c =
-    let p = err_from_is_err_and c.from-residual.result c.from-residual.ensures.1 in
-    rw (p.1, p.2) (pair_stops (stops_then (record { so = λ y w k d g. by_word w k d refl }) (tt, (nothing, tt)) (44 ∷ 32 ∷ 110 ∷ 111 ∷ 116 ∷ 104 ∷ 105 ∷ 110 ∷ 103 ∷ 41 ∷ []) ((44 ∷ 32 ∷ []), (110 ∷ 111 ∷ 116 ∷ 104 ∷ 105 ∷ 110 ∷ 103 ∷ 41 ∷ []), refl, ((110 ∷ 111 ∷ 116 ∷ 104 ∷ 105 ∷ 110 ∷ 103 ∷ []), (41 ∷ []), refl, refl, refl), refl) c.in-err-to.ensures))
+pub pair_rest-returns-in_err-to : goal.pair_rest-returns-in_err-to
+pair_rest-returns-in_err-to t c =
+    let p = err_from_is_err_and c.from_residual.result c.from_residual.ensures.1 in
+    rw (p.1, p.2) (pair_stops (stops_then (record { so = λ y w k d g. by_word w k d refl }) (tt, (nothing, tt)) (44 ∷ 32 ∷ 110 ∷ 111 ∷ 116 ∷ 104 ∷ 105 ∷ 110 ∷ 103 ∷ 41 ∷ []) ((44 ∷ 32 ∷ []), (110 ∷ 111 ∷ 116 ∷ 104 ∷ 105 ∷ 110 ∷ 103 ∷ 41 ∷ []), refl, ((110 ∷ 111 ∷ 116 ∷ 104 ∷ 105 ∷ 110 ∷ 103 ∷ []), (41 ∷ []), refl, refl, refl), refl) c.in_err-to.ensures))
 
-pub pair-rest-returns-in-err-to-2 : goal.pair-rest-returns-in-err-to-2
-pair-rest-returns-in-err-to-2 t c =
-    let p = err_from_is_err_and c.from-residual-in-err-to-2.result c.from-residual-in-err-to-2.ensures.1 in
-    rw (p.1, p.2) (pair_stops (then_stops (record { so = λ y w k d g. by_word w k d refl }) c.in-ok-to.ensures.1 (stops_then free (nothing, tt) (110 ∷ 111 ∷ 116 ∷ 104 ∷ 105 ∷ 110 ∷ 103 ∷ 41 ∷ []) ((110 ∷ 111 ∷ 116 ∷ 104 ∷ 105 ∷ 110 ∷ 103 ∷ []), (41 ∷ []), refl, refl, refl) c.in-err-to-2.ensures)))
+pub pair_rest-returns-in_err-to-2 : goal.pair_rest-returns-in_err-to-2
+pair_rest-returns-in_err-to-2 t c =
+    let p = err_from_is_err_and c.from_residual-in_err-to-2.result c.from_residual-in_err-to-2.ensures.1 in
+    rw (p.1, p.2) (pair_stops (then_stops (record { so = λ y w k d g. by_word w k d refl }) c.in_ok-to.ensures.1 (stops_then free (nothing, tt) (110 ∷ 111 ∷ 116 ∷ 104 ∷ 105 ∷ 110 ∷ 103 ∷ 41 ∷ []) ((110 ∷ 111 ∷ 116 ∷ 104 ∷ 105 ∷ 110 ∷ 103 ∷ []), (41 ∷ []), refl, refl, refl) c.in_err-to-2.ensures)))
 
-pub pair-rest-returns-in-err-to-3 : goal.pair-rest-returns-in-err-to-3
-pair-rest-returns-in-err-to-3 t c =
-    let p = err_from_is_err_and c.from-residual-in-err-to-3.result c.from-residual-in-err-to-3.ensures.1 in
-    rw (p.1, p.2) (pair_stops (then_stops (record { so = λ y w k d g. by_word w k d refl }) c.in-ok-to.ensures.1 (then_stops free c.in-ok-to-2.ensures (stops_then (by_end refl) tt (41 ∷ []) refl c.in-err-to-3.ensures))))
+pub pair_rest-returns-in_err-to-3 : goal.pair_rest-returns-in_err-to-3
+pair_rest-returns-in_err-to-3 t c =
+    let p = err_from_is_err_and c.from_residual-in_err-to-3.result c.from_residual-in_err-to-3.ensures.1 in
+    rw (p.1, p.2) (pair_stops (then_stops (record { so = λ y w k d g. by_word w k d refl }) c.in_ok-to.ensures.1 (then_stops free c.in_ok-to-2.ensures (stops_then (by_end refl) tt (41 ∷ []) refl c.in_err-to-3.ensures))))
 
-pub pair-rest-returns : goal.pair-rest-returns
-pair-rest-returns t c =
-    let x = c.in-ok-to.ensures in
-    let y = c.in-ok-to-3.ensures in
-    MatchResult-weaker c.word_2.result c.word_2.ensures
+pub pair_rest-returns : goal.pair_rest-returns
+pair_rest-returns t c =
+    let x = c.in_ok-to.ensures in
+    let y = c.in_ok-to-3.ensures in
+    MatchResult-weaker c.word-2.result c.word-2.ensures
     (λ to h. (
       (x.0, y.0),
-      pair_as (then_took (record { so = λ y w k d g. by_word w k d refl }) c.in-ok-to.ensures.1 (then_took free c.in-ok-to-2.ensures (then_took (by_end refl) c.in-ok-to-3.ensures.1 (calm_took (h))))),
+      pair_as (then_took (record { so = λ y w k d g. by_word w k d refl }) c.in_ok-to.ensures.1 (then_took free c.in_ok-to-2.ensures (then_took (by_end refl) c.in_ok-to-3.ensures.1 (calm_took (h))))),
       grown_then (nodes_of x.0) (nodes_of y.0) x.2 y.2,
-      noted_then x.3 (noted_then (noted_took c.in-ok-to-2.ensures) (noted_then y.3 (noted_took h))),
+      noted_then x.3 (noted_then (noted_took c.in_ok-to-2.ensures) (noted_then y.3 (noted_took h))),
     ))
-    (λ to h. pair_stops (then_stops (record { so = λ y w k d g. by_word w k d refl }) c.in-ok-to.ensures.1 (then_stops free c.in-ok-to-2.ensures (then_stops (by_end refl) c.in-ok-to-3.ensures.1 (calm_stops h)))))
+    (λ to h. pair_stops (then_stops (record { so = λ y w k d g. by_word w k d refl }) c.in_ok-to.ensures.1 (then_stops free c.in_ok-to-2.ensures (then_stops (by_end refl) c.in_ok-to-3.ensures.1 (calm_stops h)))))
 
-pub both-returns-in-err-to : goal.both-returns-in-err-to
-both-returns-in-err-to t c =
-    let p = err_from_is_err_and c.from-residual.result c.from-residual.ensures.1 in
-    rw (p.1, p.2) (both_stops c.args.text.now c.args.at c.requires.opens (word_past c.requires.opens.0 c.in-err-to.ensures) (stops_then free (nothing, nothing) (110 ∷ 111 ∷ 116 ∷ 104 ∷ 105 ∷ 110 ∷ 103 ∷ 44 ∷ 32 ∷ 110 ∷ 111 ∷ 116 ∷ 104 ∷ 105 ∷ 110 ∷ 103 ∷ 41 ∷ []) (codes "nothing", codes ", nothing)", refl, (codes ", ", codes "nothing)", refl, (codes "nothing", codes ")", refl, refl, refl), refl), refl) c.in-err-to.ensures))
+pub both-returns-in_err-to : goal.both-returns-in_err-to
+both-returns-in_err-to t c =
+    let p = err_from_is_err_and c.from_residual.result c.from_residual.ensures.1 in
+    rw (p.1, p.2) (both_stops c.args.text.now c.args.at c.requires.opens (word_past c.requires.opens.0 c.in_err-to.ensures) (stops_then free (nothing, nothing) (110 ∷ 111 ∷ 116 ∷ 104 ∷ 105 ∷ 110 ∷ 103 ∷ 44 ∷ 32 ∷ 110 ∷ 111 ∷ 116 ∷ 104 ∷ 105 ∷ 110 ∷ 103 ∷ 41 ∷ []) (codes "nothing", codes ", nothing)", refl, (codes ", ", codes "nothing)", refl, (codes "nothing", codes ")", refl, refl, refl), refl), refl) c.in_err-to.ensures))
 
 pub both-returns : goal.both-returns
 both-returns t c =
-    MatchResult-weaker c.pair-rest.result c.pair-rest.ensures
+    MatchResult-weaker c.pair_rest.result c.pair_rest.ensures
     (λ to h. (
       both h.0.0 h.0.1,
-      both_as c.args.text.now c.args.at c.requires.opens (let long = word_long c.in-ok-to.ensures in let more = h.1.forward in omega arith) (then_took free c.in-ok-to.ensures h.1),
+      both_as c.args.text.now c.args.at c.requires.opens (let long = word_long c.in_ok-to.ensures in let more = h.1.forward in omega arith) (then_took free c.in_ok-to.ensures h.1),
       grown_then (Both ∷ []) (nodes_of h.0.0 ++ nodes_of h.0.1) c.push.ensures h.2,
-      noted_then (noted_took c.in-ok-to.ensures) h.3,
+      noted_then (noted_took c.in_ok-to.ensures) h.3,
     ))
-    (λ to h. both_stops c.args.text.now c.args.at c.requires.opens (let long = word_long c.in-ok-to.ensures in let more = h.forward in omega arith) (then_stops free c.in-ok-to.ensures (h)))
+    (λ to h. both_stops c.args.text.now c.args.at c.requires.opens (let long = word_long c.in_ok-to.ensures in let more = h.forward in omega arith) (then_stops free c.in_ok-to.ensures (h)))
 
-pub choice-returns-in-err-to : goal.choice-returns-in-err-to
-choice-returns-in-err-to t c =
-    let p = err_from_is_err_and c.from-residual.result c.from-residual.ensures.1 in
-    rw (p.1, p.2) (choice_stops c.args.text.now c.args.at c.requires.opens (stops_then free (nothing, nothing) (110 ∷ 111 ∷ 116 ∷ 104 ∷ 105 ∷ 110 ∷ 103 ∷ 44 ∷ 32 ∷ 110 ∷ 111 ∷ 116 ∷ 104 ∷ 105 ∷ 110 ∷ 103 ∷ 41 ∷ []) (codes "nothing", codes ", nothing)", refl, (codes ", ", codes "nothing)", refl, (codes "nothing", codes ")", refl, refl, refl), refl), refl) c.in-err-to.ensures))
+pub choice-returns-in_err-to : goal.choice-returns-in_err-to
+choice-returns-in_err-to t c =
+    let p = err_from_is_err_and c.from_residual.result c.from_residual.ensures.1 in
+    rw (p.1, p.2) (choice_stops c.args.text.now c.args.at c.requires.opens (stops_then free (nothing, nothing) (110 ∷ 111 ∷ 116 ∷ 104 ∷ 105 ∷ 110 ∷ 103 ∷ 44 ∷ 32 ∷ 110 ∷ 111 ∷ 116 ∷ 104 ∷ 105 ∷ 110 ∷ 103 ∷ 41 ∷ []) (codes "nothing", codes ", nothing)", refl, (codes ", ", codes "nothing)", refl, (codes "nothing", codes ")", refl, refl, refl), refl), refl) c.in_err-to.ensures))
 
 pub choice-returns : goal.choice-returns
 choice-returns t c =
-    MatchResult-weaker c.pair-rest.result c.pair-rest.ensures
+    MatchResult-weaker c.pair_rest.result c.pair_rest.ensures
     (λ to h. (
       choice h.0.0 h.0.1,
-      choice_as c.args.text.now c.args.at c.requires.opens (then_took free c.in-ok-to.ensures h.1),
+      choice_as c.args.text.now c.args.at c.requires.opens (then_took free c.in_ok-to.ensures h.1),
       grown_then (Choice ∷ []) (nodes_of h.0.0 ++ nodes_of h.0.1) c.push.ensures h.2,
-      noted_then (noted_took c.in-ok-to.ensures) h.3,
+      noted_then (noted_took c.in_ok-to.ensures) h.3,
     ))
-    (λ to h. choice_stops c.args.text.now c.args.at c.requires.opens (then_stops free c.in-ok-to.ensures (h)))
+    (λ to h. choice_stops c.args.text.now c.args.at c.requires.opens (then_stops free c.in_ok-to.ensures (h)))
 
-pub if-else-returns-in-err-to : goal.if-else-returns-in-err-to
-if-else-returns-in-err-to t c =
-    let p = err_from_is_err_and c.from-residual.result c.from-residual.ensures.1 in
-    rw (p.1, p.2) (either_stops c.args.text.now c.args.at c.requires.opens (stops_then free ((fixed (pos 0)), (tt, (nothing, (tt, nothing)))) (48 ∷ 32 ∷ 116 ∷ 104 ∷ 101 ∷ 110 ∷ 32 ∷ 110 ∷ 111 ∷ 116 ∷ 104 ∷ 105 ∷ 110 ∷ 103 ∷ 32 ∷ 101 ∷ 108 ∷ 115 ∷ 101 ∷ 32 ∷ 110 ∷ 111 ∷ 116 ∷ 104 ∷ 105 ∷ 110 ∷ 103 ∷ []) ((48 ∷ 32 ∷ []), (116 ∷ 104 ∷ 101 ∷ 110 ∷ 32 ∷ 110 ∷ 111 ∷ 116 ∷ 104 ∷ 105 ∷ 110 ∷ 103 ∷ 32 ∷ 101 ∷ 108 ∷ 115 ∷ 101 ∷ 32 ∷ 110 ∷ 111 ∷ 116 ∷ 104 ∷ 105 ∷ 110 ∷ 103 ∷ []), some_figure 32, ((116 ∷ 104 ∷ 101 ∷ 110 ∷ 32 ∷ []), (110 ∷ 111 ∷ 116 ∷ 104 ∷ 105 ∷ 110 ∷ 103 ∷ 32 ∷ 101 ∷ 108 ∷ 115 ∷ 101 ∷ 32 ∷ 110 ∷ 111 ∷ 116 ∷ 104 ∷ 105 ∷ 110 ∷ 103 ∷ []), refl, ((110 ∷ 111 ∷ 116 ∷ 104 ∷ 105 ∷ 110 ∷ 103 ∷ []), (32 ∷ 101 ∷ 108 ∷ 115 ∷ 101 ∷ 32 ∷ 110 ∷ 111 ∷ 116 ∷ 104 ∷ 105 ∷ 110 ∷ 103 ∷ []), refl, ((32 ∷ 101 ∷ 108 ∷ 115 ∷ 101 ∷ 32 ∷ []), (110 ∷ 111 ∷ 116 ∷ 104 ∷ 105 ∷ 110 ∷ 103 ∷ []), refl, refl, refl), refl), refl), refl) c.in-err-to.ensures))
+pub if_else-returns-in_err-to : goal.if_else-returns-in_err-to
+if_else-returns-in_err-to t c =
+    let p = err_from_is_err_and c.from_residual.result c.from_residual.ensures.1 in
+    rw (p.1, p.2) (either_stops c.args.text.now c.args.at c.requires.opens (stops_then free ((fixed (pos 0)), (tt, (nothing, (tt, nothing)))) (48 ∷ 32 ∷ 116 ∷ 104 ∷ 101 ∷ 110 ∷ 32 ∷ 110 ∷ 111 ∷ 116 ∷ 104 ∷ 105 ∷ 110 ∷ 103 ∷ 32 ∷ 101 ∷ 108 ∷ 115 ∷ 101 ∷ 32 ∷ 110 ∷ 111 ∷ 116 ∷ 104 ∷ 105 ∷ 110 ∷ 103 ∷ []) ((48 ∷ 32 ∷ []), (116 ∷ 104 ∷ 101 ∷ 110 ∷ 32 ∷ 110 ∷ 111 ∷ 116 ∷ 104 ∷ 105 ∷ 110 ∷ 103 ∷ 32 ∷ 101 ∷ 108 ∷ 115 ∷ 101 ∷ 32 ∷ 110 ∷ 111 ∷ 116 ∷ 104 ∷ 105 ∷ 110 ∷ 103 ∷ []), some_figure 32, ((116 ∷ 104 ∷ 101 ∷ 110 ∷ 32 ∷ []), (110 ∷ 111 ∷ 116 ∷ 104 ∷ 105 ∷ 110 ∷ 103 ∷ 32 ∷ 101 ∷ 108 ∷ 115 ∷ 101 ∷ 32 ∷ 110 ∷ 111 ∷ 116 ∷ 104 ∷ 105 ∷ 110 ∷ 103 ∷ []), refl, ((110 ∷ 111 ∷ 116 ∷ 104 ∷ 105 ∷ 110 ∷ 103 ∷ []), (32 ∷ 101 ∷ 108 ∷ 115 ∷ 101 ∷ 32 ∷ 110 ∷ 111 ∷ 116 ∷ 104 ∷ 105 ∷ 110 ∷ 103 ∷ []), refl, ((32 ∷ 101 ∷ 108 ∷ 115 ∷ 101 ∷ 32 ∷ []), (110 ∷ 111 ∷ 116 ∷ 104 ∷ 105 ∷ 110 ∷ 103 ∷ []), refl, refl, refl), refl), refl), refl) c.in_err-to.ensures))
 
-pub if-else-returns-in-err-to-2 : goal.if-else-returns-in-err-to-2
-if-else-returns-in-err-to-2 t c =
-    let p = err_from_is_err_and c.from-residual-in-err-to-2.result c.from-residual-in-err-to-2.ensures.1 in
-    rw (p.1, p.2) (either_stops c.args.text.now c.args.at c.requires.opens (then_stops free c.in-ok-to.ensures (stops_then (record { so = λ y w k d g. by_word w k d refl }) (tt, (nothing, (tt, nothing))) (116 ∷ 104 ∷ 101 ∷ 110 ∷ 32 ∷ 110 ∷ 111 ∷ 116 ∷ 104 ∷ 105 ∷ 110 ∷ 103 ∷ 32 ∷ 101 ∷ 108 ∷ 115 ∷ 101 ∷ 32 ∷ 110 ∷ 111 ∷ 116 ∷ 104 ∷ 105 ∷ 110 ∷ 103 ∷ []) ((116 ∷ 104 ∷ 101 ∷ 110 ∷ 32 ∷ []), (110 ∷ 111 ∷ 116 ∷ 104 ∷ 105 ∷ 110 ∷ 103 ∷ 32 ∷ 101 ∷ 108 ∷ 115 ∷ 101 ∷ 32 ∷ 110 ∷ 111 ∷ 116 ∷ 104 ∷ 105 ∷ 110 ∷ 103 ∷ []), refl, ((110 ∷ 111 ∷ 116 ∷ 104 ∷ 105 ∷ 110 ∷ 103 ∷ []), (32 ∷ 101 ∷ 108 ∷ 115 ∷ 101 ∷ 32 ∷ 110 ∷ 111 ∷ 116 ∷ 104 ∷ 105 ∷ 110 ∷ 103 ∷ []), refl, ((32 ∷ 101 ∷ 108 ∷ 115 ∷ 101 ∷ 32 ∷ []), (110 ∷ 111 ∷ 116 ∷ 104 ∷ 105 ∷ 110 ∷ 103 ∷ []), refl, refl, refl), refl), refl) c.in-err-to-2.ensures)))
+pub if_else-returns-in_err-to-2 : goal.if_else-returns-in_err-to-2
+if_else-returns-in_err-to-2 t c =
+    let p = err_from_is_err_and c.from_residual-in_err-to-2.result c.from_residual-in_err-to-2.ensures.1 in
+    rw (p.1, p.2) (either_stops c.args.text.now c.args.at c.requires.opens (then_stops free c.in_ok-to.ensures (stops_then (record { so = λ y w k d g. by_word w k d refl }) (tt, (nothing, (tt, nothing))) (116 ∷ 104 ∷ 101 ∷ 110 ∷ 32 ∷ 110 ∷ 111 ∷ 116 ∷ 104 ∷ 105 ∷ 110 ∷ 103 ∷ 32 ∷ 101 ∷ 108 ∷ 115 ∷ 101 ∷ 32 ∷ 110 ∷ 111 ∷ 116 ∷ 104 ∷ 105 ∷ 110 ∷ 103 ∷ []) ((116 ∷ 104 ∷ 101 ∷ 110 ∷ 32 ∷ []), (110 ∷ 111 ∷ 116 ∷ 104 ∷ 105 ∷ 110 ∷ 103 ∷ 32 ∷ 101 ∷ 108 ∷ 115 ∷ 101 ∷ 32 ∷ 110 ∷ 111 ∷ 116 ∷ 104 ∷ 105 ∷ 110 ∷ 103 ∷ []), refl, ((110 ∷ 111 ∷ 116 ∷ 104 ∷ 105 ∷ 110 ∷ 103 ∷ []), (32 ∷ 101 ∷ 108 ∷ 115 ∷ 101 ∷ 32 ∷ 110 ∷ 111 ∷ 116 ∷ 104 ∷ 105 ∷ 110 ∷ 103 ∷ []), refl, ((32 ∷ 101 ∷ 108 ∷ 115 ∷ 101 ∷ 32 ∷ []), (110 ∷ 111 ∷ 116 ∷ 104 ∷ 105 ∷ 110 ∷ 103 ∷ []), refl, refl, refl), refl), refl) c.in_err-to-2.ensures)))
 
-pub if-else-returns-in-err-to-3 : goal.if-else-returns-in-err-to-3
-if-else-returns-in-err-to-3 t c =
-    let p = err_from_is_err_and c.from-residual-in-err-to-3.result c.from-residual-in-err-to-3.ensures.1 in
-    rw (p.1, p.2) (either_stops c.args.text.now c.args.at c.requires.opens (then_stops free c.in-ok-to.ensures (then_stops (record { so = λ y w k d g. by_word w k d refl }) c.in-ok-to-2.ensures.1 (stops_then free (nothing, (tt, nothing)) (110 ∷ 111 ∷ 116 ∷ 104 ∷ 105 ∷ 110 ∷ 103 ∷ 32 ∷ 101 ∷ 108 ∷ 115 ∷ 101 ∷ 32 ∷ 110 ∷ 111 ∷ 116 ∷ 104 ∷ 105 ∷ 110 ∷ 103 ∷ []) ((110 ∷ 111 ∷ 116 ∷ 104 ∷ 105 ∷ 110 ∷ 103 ∷ []), (32 ∷ 101 ∷ 108 ∷ 115 ∷ 101 ∷ 32 ∷ 110 ∷ 111 ∷ 116 ∷ 104 ∷ 105 ∷ 110 ∷ 103 ∷ []), refl, ((32 ∷ 101 ∷ 108 ∷ 115 ∷ 101 ∷ 32 ∷ []), (110 ∷ 111 ∷ 116 ∷ 104 ∷ 105 ∷ 110 ∷ 103 ∷ []), refl, refl, refl), refl) c.in-err-to-3.ensures))))
+pub if_else-returns-in_err-to-3 : goal.if_else-returns-in_err-to-3
+if_else-returns-in_err-to-3 t c =
+    let p = err_from_is_err_and c.from_residual-in_err-to-3.result c.from_residual-in_err-to-3.ensures.1 in
+    rw (p.1, p.2) (either_stops c.args.text.now c.args.at c.requires.opens (then_stops free c.in_ok-to.ensures (then_stops (record { so = λ y w k d g. by_word w k d refl }) c.in_ok-to-2.ensures.1 (stops_then free (nothing, (tt, nothing)) (110 ∷ 111 ∷ 116 ∷ 104 ∷ 105 ∷ 110 ∷ 103 ∷ 32 ∷ 101 ∷ 108 ∷ 115 ∷ 101 ∷ 32 ∷ 110 ∷ 111 ∷ 116 ∷ 104 ∷ 105 ∷ 110 ∷ 103 ∷ []) ((110 ∷ 111 ∷ 116 ∷ 104 ∷ 105 ∷ 110 ∷ 103 ∷ []), (32 ∷ 101 ∷ 108 ∷ 115 ∷ 101 ∷ 32 ∷ 110 ∷ 111 ∷ 116 ∷ 104 ∷ 105 ∷ 110 ∷ 103 ∷ []), refl, ((32 ∷ 101 ∷ 108 ∷ 115 ∷ 101 ∷ 32 ∷ []), (110 ∷ 111 ∷ 116 ∷ 104 ∷ 105 ∷ 110 ∷ 103 ∷ []), refl, refl, refl), refl) c.in_err-to-3.ensures))))
 
-pub if-else-returns-in-err-to-4 : goal.if-else-returns-in-err-to-4
-if-else-returns-in-err-to-4 t c =
-    let p = err_from_is_err_and c.from-residual-in-err-to-4.result c.from-residual-in-err-to-4.ensures.1 in
-    rw (p.1, p.2) (either_stops c.args.text.now c.args.at c.requires.opens (then_stops free c.in-ok-to.ensures (then_stops (record { so = λ y w k d g. by_word w k d refl }) c.in-ok-to-2.ensures.1 (then_stops free c.in-ok-to-3.ensures (stops_then (record { so = λ y w k d g. by_word w k d refl }) (tt, nothing) (32 ∷ 101 ∷ 108 ∷ 115 ∷ 101 ∷ 32 ∷ 110 ∷ 111 ∷ 116 ∷ 104 ∷ 105 ∷ 110 ∷ 103 ∷ []) ((32 ∷ 101 ∷ 108 ∷ 115 ∷ 101 ∷ 32 ∷ []), (110 ∷ 111 ∷ 116 ∷ 104 ∷ 105 ∷ 110 ∷ 103 ∷ []), refl, refl, refl) c.in-err-to-4.ensures)))))
+pub if_else-returns-in_err-to-4 : goal.if_else-returns-in_err-to-4
+if_else-returns-in_err-to-4 t c =
+    let p = err_from_is_err_and c.from_residual-in_err-to-4.result c.from_residual-in_err-to-4.ensures.1 in
+    rw (p.1, p.2) (either_stops c.args.text.now c.args.at c.requires.opens (then_stops free c.in_ok-to.ensures (then_stops (record { so = λ y w k d g. by_word w k d refl }) c.in_ok-to-2.ensures.1 (then_stops free c.in_ok-to-3.ensures (stops_then (record { so = λ y w k d g. by_word w k d refl }) (tt, nothing) (32 ∷ 101 ∷ 108 ∷ 115 ∷ 101 ∷ 32 ∷ 110 ∷ 111 ∷ 116 ∷ 104 ∷ 105 ∷ 110 ∷ 103 ∷ []) ((32 ∷ 101 ∷ 108 ∷ 115 ∷ 101 ∷ 32 ∷ []), (110 ∷ 111 ∷ 116 ∷ 104 ∷ 105 ∷ 110 ∷ 103 ∷ []), refl, refl, refl) c.in_err-to-4.ensures)))))
 
-pub if-else-returns-in-err-to-5 : goal.if-else-returns-in-err-to-5
-if-else-returns-in-err-to-5 t c =
-    let p = err_from_is_err_and c.from-residual-in-err-to-5.result c.from-residual-in-err-to-5.ensures.1 in
-    rw (p.1, p.2) (either_stops c.args.text.now c.args.at c.requires.opens (then_stops free c.in-ok-to.ensures (then_stops (record { so = λ y w k d g. by_word w k d refl }) c.in-ok-to-2.ensures.1 (then_stops free c.in-ok-to-3.ensures (then_stops (record { so = λ y w k d g. by_word w k d refl }) c.in-ok-to-4.ensures.1 (stops_then free nothing (110 ∷ 111 ∷ 116 ∷ 104 ∷ 105 ∷ 110 ∷ 103 ∷ []) refl c.in-err-to-5.ensures))))))
+pub if_else-returns-in_err-to-5 : goal.if_else-returns-in_err-to-5
+if_else-returns-in_err-to-5 t c =
+    let p = err_from_is_err_and c.from_residual-in_err-to-5.result c.from_residual-in_err-to-5.ensures.1 in
+    rw (p.1, p.2) (either_stops c.args.text.now c.args.at c.requires.opens (then_stops free c.in_ok-to.ensures (then_stops (record { so = λ y w k d g. by_word w k d refl }) c.in_ok-to-2.ensures.1 (then_stops free c.in_ok-to-3.ensures (then_stops (record { so = λ y w k d g. by_word w k d refl }) c.in_ok-to-4.ensures.1 (stops_then free nothing (110 ∷ 111 ∷ 116 ∷ 104 ∷ 105 ∷ 110 ∷ 103 ∷ []) refl c.in_err-to-5.ensures))))))
 
-pub if-else-returns : goal.if-else-returns
-if-else-returns t c =
-    let e = c.in-ok-to-2.ensures in
-    let x = c.in-ok-to-4.ensures in
+pub if_else-returns : goal.if_else-returns
+if_else-returns t c =
+    let e = c.in_ok-to-2.ensures in
+    let x = c.in_ok-to-4.ensures in
     MatchResult-weaker c.contract-2.result c.contract-2.ensures
     (λ to h. (
       either e.0 x.0 h.0,
-      either_as c.args.text.now c.args.at c.requires.opens (then_took free c.in-ok-to.ensures (then_took (record { so = λ y w k d g. by_word w k d refl }) c.in-ok-to-2.ensures.1 (then_took free c.in-ok-to-3.ensures (then_took (record { so = λ y w k d g. by_word w k d refl }) c.in-ok-to-4.ensures.1 (then_took free c.in-ok-to-5.ensures h.1))))),
+      either_as c.args.text.now c.args.at c.requires.opens (then_took free c.in_ok-to.ensures (then_took (record { so = λ y w k d g. by_word w k d refl }) c.in_ok-to-2.ensures.1 (then_took free c.in_ok-to-3.ensures (then_took (record { so = λ y w k d g. by_word w k d refl }) c.in_ok-to-4.ensures.1 (then_took free c.in_ok-to-5.ensures h.1))))),
       grown_then (If ∷ []) (figure_nodes e.0 ++ (nodes_of x.0 ++ nodes_of h.0)) c.push.ensures (grown_then (figure_nodes e.0) (nodes_of x.0 ++ nodes_of h.0) e.2 (grown_then (nodes_of x.0) (nodes_of h.0) x.2 h.2)),
       noted_map (λ rs cs w ns. next_map (λ _ _ p. p) (next_end (FigureNumerals rs e.0) (ContractNumerals rs cs x.0 next plain (exactly " else ") next ContractNumerals rs cs h.0) 32 (codes "then ")) w ns)
-          (noted_then (noted_took c.in-ok-to.ensures) (noted_then e.3 (noted_then (noted_took c.in-ok-to-3.ensures) (noted_then x.3 (noted_then (noted_took c.in-ok-to-5.ensures) h.3))))),
+          (noted_then (noted_took c.in_ok-to.ensures) (noted_then e.3 (noted_then (noted_took c.in_ok-to-3.ensures) (noted_then x.3 (noted_then (noted_took c.in_ok-to-5.ensures) h.3))))),
     ))
-    (λ to h. either_stops c.args.text.now c.args.at c.requires.opens (then_stops free c.in-ok-to.ensures (then_stops (record { so = λ y w k d g. by_word w k d refl }) c.in-ok-to-2.ensures.1 (then_stops free c.in-ok-to-3.ensures (then_stops (record { so = λ y w k d g. by_word w k d refl }) c.in-ok-to-4.ensures.1 (then_stops free c.in-ok-to-5.ensures (h)))))))
+    (λ to h. either_stops c.args.text.now c.args.at c.requires.opens (then_stops free c.in_ok-to.ensures (then_stops (record { so = λ y w k d g. by_word w k d refl }) c.in_ok-to-2.ensures.1 (then_stops free c.in_ok-to-3.ensures (then_stops (record { so = λ y w k d g. by_word w k d refl }) c.in_ok-to-4.ensures.1 (then_stops free c.in_ok-to-5.ensures (h)))))))
 
-pub scaled-returns-in-err-to : goal.scaled-returns-in-err-to
-scaled-returns-in-err-to t c =
-    let p = err_from_is_err_and c.from-residual.result c.from-residual.ensures.1 in
-    rw (p.1, p.2) (scaled_stops c.args.text.now c.args.at c.requires.opens (stops_then (record { so = λ y w k d g. by_word w k d refl }) (tt, nothing) (111 ∷ 102 ∷ 32 ∷ 110 ∷ 111 ∷ 116 ∷ 104 ∷ 105 ∷ 110 ∷ 103 ∷ []) ((111 ∷ 102 ∷ 32 ∷ []), (110 ∷ 111 ∷ 116 ∷ 104 ∷ 105 ∷ 110 ∷ 103 ∷ []), refl, refl, refl) c.in-err-to.ensures))
+pub scaled-returns-in_err-to : goal.scaled-returns-in_err-to
+scaled-returns-in_err-to t c =
+    let p = err_from_is_err_and c.from_residual.result c.from_residual.ensures.1 in
+    rw (p.1, p.2) (scaled_stops c.args.text.now c.args.at c.requires.opens (stops_then (record { so = λ y w k d g. by_word w k d refl }) (tt, nothing) (111 ∷ 102 ∷ 32 ∷ 110 ∷ 111 ∷ 116 ∷ 104 ∷ 105 ∷ 110 ∷ 103 ∷ []) ((111 ∷ 102 ∷ 32 ∷ []), (110 ∷ 111 ∷ 116 ∷ 104 ∷ 105 ∷ 110 ∷ 103 ∷ []), refl, refl, refl) c.in_err-to.ensures))
 
-pub scaled-returns-in-err-to-2 : goal.scaled-returns-in-err-to-2
-scaled-returns-in-err-to-2 t c =
-    let p = err_from_is_err_and c.from-residual-in-err-to-2.result c.from-residual-in-err-to-2.ensures.1 in
-    rw (p.1, p.2) (scaled_stops c.args.text.now c.args.at c.requires.opens (then_stops (record { so = λ y w k d g. by_word w k d refl }) c.in-ok-to.ensures.1 (stops_then free nothing (110 ∷ 111 ∷ 116 ∷ 104 ∷ 105 ∷ 110 ∷ 103 ∷ []) refl c.in-err-to-2.ensures)))
+pub scaled-returns-in_err-to-2 : goal.scaled-returns-in_err-to-2
+scaled-returns-in_err-to-2 t c =
+    let p = err_from_is_err_and c.from_residual-in_err-to-2.result c.from_residual-in_err-to-2.ensures.1 in
+    rw (p.1, p.2) (scaled_stops c.args.text.now c.args.at c.requires.opens (then_stops (record { so = λ y w k d g. by_word w k d refl }) c.in_ok-to.ensures.1 (stops_then free nothing (110 ∷ 111 ∷ 116 ∷ 104 ∷ 105 ∷ 110 ∷ 103 ∷ []) refl c.in_err-to-2.ensures)))
 
 pub scaled-returns : goal.scaled-returns
 scaled-returns t c =
-    let e = c.in-ok-to.ensures in
+    let e = c.in_ok-to.ensures in
     MatchResult-weaker c.contract.result c.contract.ensures
     (λ to h. (
       scaled e.0 h.0,
-      scaled_as c.args.text.now c.args.at c.requires.opens (then_took (record { so = λ y w k d g. by_word w k d refl }) c.in-ok-to.ensures.1 (then_took free c.in-ok-to-2.ensures h.1)),
+      scaled_as c.args.text.now c.args.at c.requires.opens (then_took (record { so = λ y w k d g. by_word w k d refl }) c.in_ok-to.ensures.1 (then_took free c.in_ok-to-2.ensures h.1)),
       grown_then (Of ∷ []) (figure_nodes e.0 ++ nodes_of h.0) c.push.ensures (grown_then (figure_nodes e.0) (nodes_of h.0) e.2 h.2),
       noted_map (λ rs cs w ns. next_end (FigureNumerals rs e.0) (ContractNumerals rs cs h.0) 32 (codes "of ") w ns)
-          (noted_then e.3 (noted_then (noted_took c.in-ok-to-2.ensures) h.3)),
+          (noted_then e.3 (noted_then (noted_took c.in_ok-to-2.ensures) h.3)),
     ))
-    (λ to h. scaled_stops c.args.text.now c.args.at c.requires.opens (then_stops (record { so = λ y w k d g. by_word w k d refl }) c.in-ok-to.ensures.1 (then_stops free c.in-ok-to-2.ensures (h))))
+    (λ to h. scaled_stops c.args.text.now c.args.at c.requires.opens (then_stops (record { so = λ y w k d g. by_word w k d refl }) c.in_ok-to.ensures.1 (then_stops free c.in_ok-to-2.ensures (h))))
 
-pub on-day-returns-in-err-to : goal.on-day-returns-in-err-to
-on-day-returns-in-err-to t c =
-    let p = err_from_is_err_and c.from-residual.result c.from-residual.ensures.1 in
-    rw (p.1, p.2) (on_stops c.args.text.now c.args.at c.requires.opens (stops_then free (0, nothing) (48 ∷ 58 ∷ 32 ∷ 110 ∷ 111 ∷ 116 ∷ 104 ∷ 105 ∷ 110 ∷ 103 ∷ []) ((48 ∷ 58 ∷ 32 ∷ []), (110 ∷ 111 ∷ 116 ∷ 104 ∷ 105 ∷ 110 ∷ 103 ∷ []), (codes "0", codes ": ", some_number, refl, refl), refl, refl) c.in-err-to.ensures))
+pub on_day-returns-in_err-to : goal.on_day-returns-in_err-to
+on_day-returns-in_err-to t c =
+    let p = err_from_is_err_and c.from_residual.result c.from_residual.ensures.1 in
+    rw (p.1, p.2) (on_stops c.args.text.now c.args.at c.requires.opens (stops_then free (0, nothing) (48 ∷ 58 ∷ 32 ∷ 110 ∷ 111 ∷ 116 ∷ 104 ∷ 105 ∷ 110 ∷ 103 ∷ []) ((48 ∷ 58 ∷ 32 ∷ []), (110 ∷ 111 ∷ 116 ∷ 104 ∷ 105 ∷ 110 ∷ 103 ∷ []), (codes "0", codes ": ", some_number, refl, refl), refl, refl) c.in_err-to.ensures))
 
-pub on-day-returns-in-err-d : goal.on-day-returns-in-err-d
-on-day-returns-in-err-d t c =
-    let p = err_from_is_err_and c.from-residual-in-err-d.result c.from-residual-in-err-d.ensures.1 in
-    rw (p.1, p.2) (on_stops c.args.text.now c.args.at c.requires.opens (then_stops free c.in-ok-to.ensures (stops_then free nothing (110 ∷ 111 ∷ 116 ∷ 104 ∷ 105 ∷ 110 ∷ 103 ∷ []) refl c.in-err-d.ensures)))
+pub on_day-returns-in_err-d : goal.on_day-returns-in_err-d
+on_day-returns-in_err-d t c =
+    let p = err_from_is_err_and c.from_residual-in_err-d.result c.from_residual-in_err-d.ensures.1 in
+    rw (p.1, p.2) (on_stops c.args.text.now c.args.at c.requires.opens (then_stops free c.in_ok-to.ensures (stops_then free nothing (110 ∷ 111 ∷ 116 ∷ 104 ∷ 105 ∷ 110 ∷ 103 ∷ []) refl c.in_err-d.ensures)))
 
-pub on-day-returns : goal.on-day-returns
-on-day-returns t c =
-    let d = c.in-ok-d.ensures in
+pub on_day-returns : goal.on_day-returns
+on_day-returns t c =
+    let d = c.in_ok-d.ensures in
     MatchResult-weaker c.contract.result c.contract.ensures
     (λ to h. (
       on_day d.0 h.0,
-      on_as c.args.text.now c.args.at c.requires.opens (then_took free c.in-ok-to.ensures (then_took free c.in-ok-d.ensures.2 h.1)),
-      rw (← d.1) (grown_then (On c.in-ok-d.d ∷ []) (nodes_of h.0) c.push.ensures h.2),
+      on_as c.args.text.now c.args.at c.requires.opens (then_took free c.in_ok-to.ensures (then_took free c.in_ok-d.ensures.2 h.1)),
+      rw (← d.1) (grown_then (On c.in_ok-d.d ∷ []) (nodes_of h.0) c.push.ensures h.2),
       noted_map (λ rs cs w ns. next_map (λ _ _ p. p) (next_right {P = numeral 65536 d.0} {Q = plain (exactly ": ")} {R = ContractNumerals rs cs h.0}) w ns)
-          (noted_then (noted_took c.in-ok-to.ensures) (noted_then (noted_day (λ _ _. 65536) (λ rs cs ks k. c.note.ensures rs cs d.0 ks k d.1) d.2) h.3)),
+          (noted_then (noted_took c.in_ok-to.ensures) (noted_then (noted_day (λ _ _. 65536) (λ rs cs ks k. c.note.ensures rs cs d.0 ks k d.1) d.2) h.3)),
     ))
-    (λ to h. on_stops c.args.text.now c.args.at c.requires.opens (then_stops free c.in-ok-to.ensures (then_stops free c.in-ok-d.ensures.2 (h))))
+    (λ to h. on_stops c.args.text.now c.args.at c.requires.opens (then_stops free c.in_ok-to.ensures (then_stops free c.in_ok-d.ensures.2 (h))))
 
-pub by-day-returns-in-err-to : goal.by-day-returns-in-err-to
-by-day-returns-in-err-to t c =
-    let p = err_from_is_err_and c.from-residual.result c.from-residual.ensures.1 in
-    rw (p.1, p.2) (by_stops c.args.text.now c.args.at c.requires.opens (word_past c.requires.opens.0 c.in-err-to.ensures) (stops_then free (0, nothing) (48 ∷ 58 ∷ 32 ∷ 110 ∷ 111 ∷ 116 ∷ 104 ∷ 105 ∷ 110 ∷ 103 ∷ []) ((48 ∷ 58 ∷ 32 ∷ []), (110 ∷ 111 ∷ 116 ∷ 104 ∷ 105 ∷ 110 ∷ 103 ∷ []), (codes "0", codes ": ", some_number, refl, refl), refl, refl) c.in-err-to.ensures))
+pub by_day-returns-in_err-to : goal.by_day-returns-in_err-to
+by_day-returns-in_err-to t c =
+    let p = err_from_is_err_and c.from_residual.result c.from_residual.ensures.1 in
+    rw (p.1, p.2) (by_stops c.args.text.now c.args.at c.requires.opens (word_past c.requires.opens.0 c.in_err-to.ensures) (stops_then free (0, nothing) (48 ∷ 58 ∷ 32 ∷ 110 ∷ 111 ∷ 116 ∷ 104 ∷ 105 ∷ 110 ∷ 103 ∷ []) ((48 ∷ 58 ∷ 32 ∷ []), (110 ∷ 111 ∷ 116 ∷ 104 ∷ 105 ∷ 110 ∷ 103 ∷ []), (codes "0", codes ": ", some_number, refl, refl), refl, refl) c.in_err-to.ensures))
 
-pub by-day-returns-in-err-d : goal.by-day-returns-in-err-d
-by-day-returns-in-err-d t c =
-    let p = err_from_is_err_and c.from-residual-in-err-d.result c.from-residual-in-err-d.ensures.1 in
-    rw (p.1, p.2) (by_stops c.args.text.now c.args.at c.requires.opens (let long = word_long c.in-ok-to.ensures in let more = c.in-err-d.ensures.forward in omega arith) (then_stops free c.in-ok-to.ensures (stops_then free nothing (110 ∷ 111 ∷ 116 ∷ 104 ∷ 105 ∷ 110 ∷ 103 ∷ []) refl c.in-err-d.ensures)))
+pub by_day-returns-in_err-d : goal.by_day-returns-in_err-d
+by_day-returns-in_err-d t c =
+    let p = err_from_is_err_and c.from_residual-in_err-d.result c.from_residual-in_err-d.ensures.1 in
+    rw (p.1, p.2) (by_stops c.args.text.now c.args.at c.requires.opens (let long = word_long c.in_ok-to.ensures in let more = c.in_err-d.ensures.forward in omega arith) (then_stops free c.in_ok-to.ensures (stops_then free nothing (110 ∷ 111 ∷ 116 ∷ 104 ∷ 105 ∷ 110 ∷ 103 ∷ []) refl c.in_err-d.ensures)))
 
-pub by-day-returns : goal.by-day-returns
-by-day-returns t c =
-    let d = c.in-ok-d.ensures in
+pub by_day-returns : goal.by_day-returns
+by_day-returns t c =
+    let d = c.in_ok-d.ensures in
     MatchResult-weaker c.contract.result c.contract.ensures
     (λ to h. (
       by_day d.0 h.0,
-      by_as c.args.text.now c.args.at c.requires.opens (let long = word_long c.in-ok-to.ensures in let more = c.in-ok-d.ensures.2.forward in let most = h.1.forward in omega arith) (then_took free c.in-ok-to.ensures (then_took free c.in-ok-d.ensures.2 h.1)),
-      rw (← d.1) (grown_then (By c.in-ok-d.d ∷ []) (nodes_of h.0) c.push.ensures h.2),
+      by_as c.args.text.now c.args.at c.requires.opens (let long = word_long c.in_ok-to.ensures in let more = c.in_ok-d.ensures.2.forward in let most = h.1.forward in omega arith) (then_took free c.in_ok-to.ensures (then_took free c.in_ok-d.ensures.2 h.1)),
+      rw (← d.1) (grown_then (By c.in_ok-d.d ∷ []) (nodes_of h.0) c.push.ensures h.2),
       noted_map (λ rs cs w ns. next_map (λ _ _ p. p) (next_right {P = numeral 65536 d.0} {Q = plain (exactly ": ")} {R = ContractNumerals rs cs h.0}) w ns)
-          (noted_then (noted_took c.in-ok-to.ensures) (noted_then (noted_day (λ _ _. 65536) (λ rs cs ks k. c.note.ensures rs cs d.0 ks k d.1) d.2) h.3)),
+          (noted_then (noted_took c.in_ok-to.ensures) (noted_then (noted_day (λ _ _. 65536) (λ rs cs ks k. c.note.ensures rs cs d.0 ks k d.1) d.2) h.3)),
     ))
-    (λ to h. by_stops c.args.text.now c.args.at c.requires.opens (let long = word_long c.in-ok-to.ensures in let more = c.in-ok-d.ensures.2.forward in let most = h.forward in omega arith) (then_stops free c.in-ok-to.ensures (then_stops free c.in-ok-d.ensures.2 (h))))
+    (λ to h. by_stops c.args.text.now c.args.at c.requires.opens (let long = word_long c.in_ok-to.ensures in let more = c.in_ok-d.ensures.2.forward in let most = h.forward in omega arith) (then_stops free c.in_ok-to.ensures (then_stops free c.in_ok-d.ensures.2 (h))))
 
-pub when-returns-in-err-to : goal.when-returns-in-err-to
-when-returns-in-err-to t c =
-    let p = err_from_is_err_and c.from-residual.result c.from-residual.ensures.1 in
-    rw (p.1, p.2) (when_stops c.args.text.now c.args.at c.requires.opens (stops_then free ((fixed (pos 0)), (tt, nothing)) (48 ∷ 58 ∷ 32 ∷ 110 ∷ 111 ∷ 116 ∷ 104 ∷ 105 ∷ 110 ∷ 103 ∷ []) ((48 ∷ 58 ∷ []), (32 ∷ 110 ∷ 111 ∷ 116 ∷ 104 ∷ 105 ∷ 110 ∷ 103 ∷ []), some_figure 58, ((32 ∷ []), (110 ∷ 111 ∷ 116 ∷ 104 ∷ 105 ∷ 110 ∷ 103 ∷ []), refl, refl, refl), refl) c.in-err-to.ensures))
+pub when-returns-in_err-to : goal.when-returns-in_err-to
+when-returns-in_err-to t c =
+    let p = err_from_is_err_and c.from_residual.result c.from_residual.ensures.1 in
+    rw (p.1, p.2) (when_stops c.args.text.now c.args.at c.requires.opens (stops_then free ((fixed (pos 0)), (tt, nothing)) (48 ∷ 58 ∷ 32 ∷ 110 ∷ 111 ∷ 116 ∷ 104 ∷ 105 ∷ 110 ∷ 103 ∷ []) ((48 ∷ 58 ∷ []), (32 ∷ 110 ∷ 111 ∷ 116 ∷ 104 ∷ 105 ∷ 110 ∷ 103 ∷ []), some_figure 58, ((32 ∷ []), (110 ∷ 111 ∷ 116 ∷ 104 ∷ 105 ∷ 110 ∷ 103 ∷ []), refl, refl, refl), refl) c.in_err-to.ensures))
 
-pub when-returns-in-err-to-2 : goal.when-returns-in-err-to-2
-when-returns-in-err-to-2 t c =
-    let p = err_from_is_err_and c.from-residual-in-err-to-2.result c.from-residual-in-err-to-2.ensures.1 in
-    rw (p.1, p.2) (when_stops c.args.text.now c.args.at c.requires.opens (then_stops free c.in-ok-to.ensures (stops_then (record { so = λ y w k d g. by_word w k d refl }) (tt, nothing) (32 ∷ 110 ∷ 111 ∷ 116 ∷ 104 ∷ 105 ∷ 110 ∷ 103 ∷ []) ((32 ∷ []), (110 ∷ 111 ∷ 116 ∷ 104 ∷ 105 ∷ 110 ∷ 103 ∷ []), refl, refl, refl) c.in-err-to-2.ensures)))
+pub when-returns-in_err-to-2 : goal.when-returns-in_err-to-2
+when-returns-in_err-to-2 t c =
+    let p = err_from_is_err_and c.from_residual-in_err-to-2.result c.from_residual-in_err-to-2.ensures.1 in
+    rw (p.1, p.2) (when_stops c.args.text.now c.args.at c.requires.opens (then_stops free c.in_ok-to.ensures (stops_then (record { so = λ y w k d g. by_word w k d refl }) (tt, nothing) (32 ∷ 110 ∷ 111 ∷ 116 ∷ 104 ∷ 105 ∷ 110 ∷ 103 ∷ []) ((32 ∷ []), (110 ∷ 111 ∷ 116 ∷ 104 ∷ 105 ∷ 110 ∷ 103 ∷ []), refl, refl, refl) c.in_err-to-2.ensures)))
 
-pub when-returns-in-err-to-3 : goal.when-returns-in-err-to-3
-when-returns-in-err-to-3 t c =
-    let p = err_from_is_err_and c.from-residual-in-err-to-3.result c.from-residual-in-err-to-3.ensures.1 in
-    rw (p.1, p.2) (when_stops c.args.text.now c.args.at c.requires.opens (then_stops free c.in-ok-to.ensures (then_stops (record { so = λ y w k d g. by_word w k d refl }) c.in-ok-to-2.ensures.1 (stops_then free nothing (110 ∷ 111 ∷ 116 ∷ 104 ∷ 105 ∷ 110 ∷ 103 ∷ []) refl c.in-err-to-3.ensures))))
+pub when-returns-in_err-to-3 : goal.when-returns-in_err-to-3
+when-returns-in_err-to-3 t c =
+    let p = err_from_is_err_and c.from_residual-in_err-to-3.result c.from_residual-in_err-to-3.ensures.1 in
+    rw (p.1, p.2) (when_stops c.args.text.now c.args.at c.requires.opens (then_stops free c.in_ok-to.ensures (then_stops (record { so = λ y w k d g. by_word w k d refl }) c.in_ok-to-2.ensures.1 (stops_then free nothing (110 ∷ 111 ∷ 116 ∷ 104 ∷ 105 ∷ 110 ∷ 103 ∷ []) refl c.in_err-to-3.ensures))))
 
 pub when-returns : goal.when-returns
 when-returns t c =
-    let e = c.in-ok-to-2.ensures in
+    let e = c.in_ok-to-2.ensures in
     MatchResult-weaker c.contract.result c.contract.ensures
     (λ to h. (
       when e.0 h.0,
-      when_as c.args.text.now c.args.at c.requires.opens (then_took free c.in-ok-to.ensures (then_took (record { so = λ y w k d g. by_word w k d refl }) c.in-ok-to-2.ensures.1 (then_took free c.in-ok-to-3.ensures h.1))),
+      when_as c.args.text.now c.args.at c.requires.opens (then_took free c.in_ok-to.ensures (then_took (record { so = λ y w k d g. by_word w k d refl }) c.in_ok-to-2.ensures.1 (then_took free c.in_ok-to-3.ensures h.1))),
       grown_then (When ∷ []) (figure_nodes e.0 ++ nodes_of h.0) c.push.ensures (grown_then (figure_nodes e.0) (nodes_of h.0) e.2 h.2),
       noted_map (λ rs cs w ns. next_map (λ _ _ p. p) (next_end (FigureNumerals rs e.0) (ContractNumerals rs cs h.0) 58 (codes " ")) w ns)
-          (noted_then (noted_took c.in-ok-to.ensures) (noted_then e.3 (noted_then (noted_took c.in-ok-to-3.ensures) h.3))),
+          (noted_then (noted_took c.in_ok-to.ensures) (noted_then e.3 (noted_then (noted_took c.in_ok-to-3.ensures) h.3))),
     ))
-    (λ to h. when_stops c.args.text.now c.args.at c.requires.opens (then_stops free c.in-ok-to.ensures (then_stops (record { so = λ y w k d g. by_word w k d refl }) c.in-ok-to-2.ensures.1 (then_stops free c.in-ok-to-3.ensures (h)))))
+    (λ to h. when_stops c.args.text.now c.args.at c.requires.opens (then_stops free c.in_ok-to.ensures (then_stops (record { so = λ y w k d g. by_word w k d refl }) c.in_ok-to-2.ensures.1 (then_stops free c.in_ok-to-3.ensures (h)))))

@@ -4,23 +4,23 @@ use Rattle.texts.proofs.contracts.+both_by_day_choice_contract_if_else_on_day_pa
 abbrev pub decreases-contract : goal.decreases-contract
 decreases-contract l = 2 * (length l.text.now - l.at) + 1
 
-abbrev pub decreases-pair-rest : goal.decreases-pair-rest
-decreases-pair-rest l = 2 * (length l.text.now - l.at) + 2
+abbrev pub decreases-pair_rest : goal.decreases-pair_rest
+decreases-pair_rest l = 2 * (length l.text.now - l.at) + 2
 
 abbrev pub decreases-both : goal.decreases-both
 decreases-both l = 2 * (length l.text.now - l.at)
 
-abbrev pub decreases-by-day : goal.decreases-by-day
-decreases-by-day l = 2 * (length l.text.now - l.at)
+abbrev pub decreases-by_day : goal.decreases-by_day
+decreases-by_day l = 2 * (length l.text.now - l.at)
 
 abbrev pub decreases-choice : goal.decreases-choice
 decreases-choice l = 2 * (length l.text.now - l.at)
 
-abbrev pub decreases-if-else : goal.decreases-if-else
-decreases-if-else l = 2 * (length l.text.now - l.at)
+abbrev pub decreases-if_else : goal.decreases-if_else
+decreases-if_else l = 2 * (length l.text.now - l.at)
 
-abbrev pub decreases-on-day : goal.decreases-on-day
-decreases-on-day l = 2 * (length l.text.now - l.at)
+abbrev pub decreases-on_day : goal.decreases-on_day
+decreases-on_day l = 2 * (length l.text.now - l.at)
 
 abbrev pub decreases-scaled : goal.decreases-scaled
 decreases-scaled l = 2 * (length l.text.now - l.at)

@@ -4,15 +4,15 @@ use Rattle.texts.proofs.Parts.{by_end, then_took, then_stops, stops_then}
 use Rattle.texts.proofs.ContractParts.{day_as, day_colon_stops}
 use Rattle.texts.proofs.contracts.day_colon.Goals as goal
 
-pub returns-in-err-d : goal.returns-in-err-d
-returns-in-err-d c =
-    let p = err_from_is_err_and c.from-residual.result c.from-residual.ensures.1 in
-    rw (p.1, p.2) (day_colon_stops (stops_then (by_end refl) tt (58 ∷ 32 ∷ []) refl c.in-err-d.ensures))
+pub returns-in_err-d : goal.returns-in_err-d
+returns-in_err-d c =
+    let p = err_from_is_err_and c.from_residual.result c.from_residual.ensures.1 in
+    rw (p.1, p.2) (day_colon_stops (stops_then (by_end refl) tt (58 ∷ 32 ∷ []) refl c.in_err-d.ensures))
 
-pub returns-in-err-to : goal.returns-in-err-to
-returns-in-err-to c =
-    let p = err_from_is_err_and c.from-residual-in-err-to.result c.from-residual-in-err-to.ensures.1 in
-    rw (p.1, p.2) (day_colon_stops (then_stops (by_end refl) c.in_ok-d.ensures.2 c.in-err-to.ensures))
+pub returns-in_err-to : goal.returns-in_err-to
+returns-in_err-to c =
+    let p = err_from_is_err_and c.from_residual-in_err-to.result c.from_residual-in_err-to.ensures.1 in
+    rw (p.1, p.2) (day_colon_stops (then_stops (by_end refl) c.in_ok-d.ensures.2 c.in_err-to.ensures))
 
 pub returns : goal.returns
 returns c =

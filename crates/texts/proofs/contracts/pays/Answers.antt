@@ -11,25 +11,25 @@ use Rattle.texts.specs.Ranges.{Counts}
 use Rattle.texts.proofs.Notes.{noted_then, noted_took, noted_number}
 use Rattle.texts.proofs.contracts.pays.Goals as goal
 
-pub returns-in-err-to : goal.returns-in-err-to
-returns-in-err-to c =
-    let p = err_from_is_err_and c.from-residual.result c.from-residual.ensures.1 in
-    rw (p.1, p.2) (pays_stops c.args.text.now c.args.at c.requires.opens (stops_then free ((pos 0), (tt, 0)) (48 ∷ 32 ∷ 48 ∷ []) ((48 ∷ []), (32 ∷ 48 ∷ []), some_number, ((32 ∷ []), (48 ∷ []), refl, some_number, refl), refl) c.in-err-to.ensures))
+pub returns-in_err-to : goal.returns-in_err-to
+returns-in_err-to c =
+    let p = err_from_is_err_and c.from_residual.result c.from_residual.ensures.1 in
+    rw (p.1, p.2) (pays_stops c.args.text.now c.args.at c.requires.opens (stops_then free ((pos 0), (tt, 0)) (48 ∷ 32 ∷ 48 ∷ []) ((48 ∷ []), (32 ∷ 48 ∷ []), some_number, ((32 ∷ []), (48 ∷ []), refl, some_number, refl), refl) c.in_err-to.ensures))
 
-pub returns-in-err-a : goal.returns-in-err-a
-returns-in-err-a c =
-    let p = err_from_is_err_and c.from-residual-in-err-a.result c.from-residual-in-err-a.ensures.1 in
-    rw (p.1, p.2) (pays_stops c.args.text.now c.args.at c.requires.opens (then_stops free c.in_ok-to.ensures (stops_then (record { so = λ y w k d g. by_word w k d refl }) (tt, 0) (32 ∷ 48 ∷ []) ((32 ∷ []), (48 ∷ []), refl, some_number, refl) c.in-err-a.ensures)))
+pub returns-in_err-a : goal.returns-in_err-a
+returns-in_err-a c =
+    let p = err_from_is_err_and c.from_residual-in_err-a.result c.from_residual-in_err-a.ensures.1 in
+    rw (p.1, p.2) (pays_stops c.args.text.now c.args.at c.requires.opens (then_stops free c.in_ok-to.ensures (stops_then (record { so = λ y w k d g. by_word w k d refl }) (tt, 0) (32 ∷ 48 ∷ []) ((32 ∷ []), (48 ∷ []), refl, some_number, refl) c.in_err-a.ensures)))
 
-pub returns-in-err-to-2 : goal.returns-in-err-to-2
-returns-in-err-to-2 c =
-    let p = err_from_is_err_and c.from-residual-in-err-to-2.result c.from-residual-in-err-to-2.ensures.1 in
-    rw (p.1, p.2) (pays_stops c.args.text.now c.args.at c.requires.opens (then_stops free c.in_ok-to.ensures (then_stops (record { so = λ y w k d g. by_word w k d refl }) c.in_ok-a.ensures.2 (stops_then free 0 (48 ∷ []) some_number c.in-err-to-2.ensures))))
+pub returns-in_err-to-2 : goal.returns-in_err-to-2
+returns-in_err-to-2 c =
+    let p = err_from_is_err_and c.from_residual-in_err-to-2.result c.from_residual-in_err-to-2.ensures.1 in
+    rw (p.1, p.2) (pays_stops c.args.text.now c.args.at c.requires.opens (then_stops free c.in_ok-to.ensures (then_stops (record { so = λ y w k d g. by_word w k d refl }) c.in_ok-a.ensures.2 (stops_then free 0 (48 ∷ []) some_number c.in_err-to-2.ensures))))
 
-pub returns-in-err-k : goal.returns-in-err-k
-returns-in-err-k c =
-    let p = err_from_is_err_and c.from-residual-in-err-k.result c.from-residual-in-err-k.ensures.1 in
-    rw (p.1, p.2) (pays_stops c.args.text.now c.args.at c.requires.opens (then_stops free c.in_ok-to.ensures (then_stops (record { so = λ y w k d g. by_word w k d refl }) c.in_ok-a.ensures.2 (then_stops free c.in_ok-to-2.ensures c.in-err-k.ensures))))
+pub returns-in_err-k : goal.returns-in_err-k
+returns-in_err-k c =
+    let p = err_from_is_err_and c.from_residual-in_err-k.result c.from_residual-in_err-k.ensures.1 in
+    rw (p.1, p.2) (pays_stops c.args.text.now c.args.at c.requires.opens (then_stops free c.in_ok-to.ensures (then_stops (record { so = λ y w k d g. by_word w k d refl }) c.in_ok-a.ensures.2 (then_stops free c.in_ok-to-2.ensures c.in_err-k.ensures))))
 
 pub returns : goal.returns
 returns c =

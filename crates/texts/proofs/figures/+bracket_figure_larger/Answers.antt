@@ -11,71 +11,71 @@ use Rattle.texts.specs.Bounds.{FigureNumerals}
 use Rattle.texts.proofs.Notes.{noted_then, noted_map, noted_took, next_spelt, bracket_numerals}
 use Rattle.texts.proofs.figures.+bracket_figure_larger.Goals as goal
 
-pub bracket-returns-in-err-to : goal.bracket-returns-in-err-to
-bracket-returns-in-err-to t c =
-    let p = err_from_is_err_and c.from-residual.result c.from-residual.ensures.1 in
-    rw (p.1, p.2) (bracket_stops c.args.text.now c.args.at c.args.end c.requires.opens (stops_then free ((fixed (pos 0)), (add, (tt, ((fixed (pos 0)), tt)))) (48 ∷ 32 ∷ 43 ∷ 32 ∷ 48 ∷ 41 ∷ c.args.end ∷ []) ((48 ∷ 32 ∷ []), (43 ∷ 32 ∷ 48 ∷ 41 ∷ c.args.end ∷ []), some_figure 32, ((43 ∷ []), (32 ∷ 48 ∷ 41 ∷ c.args.end ∷ []), refl, ((32 ∷ []), (48 ∷ 41 ∷ c.args.end ∷ []), refl, ((48 ∷ 41 ∷ []), (c.args.end ∷ []), some_figure 41, refl, refl), refl), refl), refl) c.in-err-to.ensures))
+pub bracket-returns-in_err-to : goal.bracket-returns-in_err-to
+bracket-returns-in_err-to t c =
+    let p = err_from_is_err_and c.from_residual.result c.from_residual.ensures.1 in
+    rw (p.1, p.2) (bracket_stops c.args.text.now c.args.at c.args.end c.requires.opens (stops_then free ((fixed (pos 0)), (add, (tt, ((fixed (pos 0)), tt)))) (48 ∷ 32 ∷ 43 ∷ 32 ∷ 48 ∷ 41 ∷ c.args.end ∷ []) ((48 ∷ 32 ∷ []), (43 ∷ 32 ∷ 48 ∷ 41 ∷ c.args.end ∷ []), some_figure 32, ((43 ∷ []), (32 ∷ 48 ∷ 41 ∷ c.args.end ∷ []), refl, ((32 ∷ []), (48 ∷ 41 ∷ c.args.end ∷ []), refl, ((48 ∷ 41 ∷ []), (c.args.end ∷ []), some_figure 41, refl, refl), refl), refl), refl) c.in_err-to.ensures))
 
-pub bracket-returns-in-err-to-2 : goal.bracket-returns-in-err-to-2
-bracket-returns-in-err-to-2 t c =
-    let p = err_from_is_err_and c.from-residual-in-err-to-2.result c.from-residual-in-err-to-2.ensures.1 in
-    rw (p.1, p.2) (bracket_stops c.args.text.now c.args.at c.args.end c.requires.opens (then_stops free c.in_ok-to.ensures (stops_then (record { so = λ y w k d g. by_operator y.0 w k d }) (add, (tt, ((fixed (pos 0)), tt))) (43 ∷ 32 ∷ 48 ∷ 41 ∷ c.args.end ∷ []) ((43 ∷ []), (32 ∷ 48 ∷ 41 ∷ c.args.end ∷ []), refl, ((32 ∷ []), (48 ∷ 41 ∷ c.args.end ∷ []), refl, ((48 ∷ 41 ∷ []), (c.args.end ∷ []), some_figure 41, refl, refl), refl), refl) c.in-err-to-2.ensures)))
+pub bracket-returns-in_err-to-2 : goal.bracket-returns-in_err-to-2
+bracket-returns-in_err-to-2 t c =
+    let p = err_from_is_err_and c.from_residual-in_err-to-2.result c.from_residual-in_err-to-2.ensures.1 in
+    rw (p.1, p.2) (bracket_stops c.args.text.now c.args.at c.args.end c.requires.opens (then_stops free c.in_ok-to.ensures (stops_then (record { so = λ y w k d g. by_operator y.0 w k d }) (add, (tt, ((fixed (pos 0)), tt))) (43 ∷ 32 ∷ 48 ∷ 41 ∷ c.args.end ∷ []) ((43 ∷ []), (32 ∷ 48 ∷ 41 ∷ c.args.end ∷ []), refl, ((32 ∷ []), (48 ∷ 41 ∷ c.args.end ∷ []), refl, ((48 ∷ 41 ∷ []), (c.args.end ∷ []), some_figure 41, refl, refl), refl), refl) c.in_err-to-2.ensures)))
 
-pub bracket-returns-in-err-node : goal.bracket-returns-in-err-node
-bracket-returns-in-err-node t c =
-    let p = err_from_is_err_and c.from-residual-in-err-node.result c.from-residual-in-err-node.ensures.1 in
-    rw (p.1, p.2) (bracket_stops c.args.text.now c.args.at c.args.end c.requires.opens (then_stops free c.in_ok-to.ensures (then_stops (record { so = λ y w k d g. by_operator y.0 w k d }) c.in_ok-to-2.ensures.1 (stops_then free (tt, ((fixed (pos 0)), tt)) (32 ∷ 48 ∷ 41 ∷ c.args.end ∷ []) ((32 ∷ []), (48 ∷ 41 ∷ c.args.end ∷ []), refl, ((48 ∷ 41 ∷ []), (c.args.end ∷ []), some_figure 41, refl, refl), refl) c.in-err-node.ensures))))
+pub bracket-returns-in_err-node : goal.bracket-returns-in_err-node
+bracket-returns-in_err-node t c =
+    let p = err_from_is_err_and c.from_residual-in_err-node.result c.from_residual-in_err-node.ensures.1 in
+    rw (p.1, p.2) (bracket_stops c.args.text.now c.args.at c.args.end c.requires.opens (then_stops free c.in_ok-to.ensures (then_stops (record { so = λ y w k d g. by_operator y.0 w k d }) c.in_ok-to-2.ensures.1 (stops_then free (tt, ((fixed (pos 0)), tt)) (32 ∷ 48 ∷ 41 ∷ c.args.end ∷ []) ((32 ∷ []), (48 ∷ 41 ∷ c.args.end ∷ []), refl, ((48 ∷ 41 ∷ []), (c.args.end ∷ []), some_figure 41, refl, refl), refl) c.in_err-node.ensures))))
 
-pub bracket-returns-in-err-to-3 : goal.bracket-returns-in-err-to-3
-bracket-returns-in-err-to-3 t c =
-    let p = err_from_is_err_and c.from-residual-in-err-to-3.result c.from-residual-in-err-to-3.ensures.1 in
-    rw (p.1, p.2) (bracket_stops c.args.text.now c.args.at c.args.end c.requires.opens (then_stops free c.in_ok-to.ensures (then_stops (record { so = λ y w k d g. by_operator y.0 w k d }) c.in_ok-to-2.ensures.1 (then_stops free c.in-ok-node.ensures.2 (stops_then free ((fixed (pos 0)), tt) (48 ∷ 41 ∷ c.args.end ∷ []) ((48 ∷ 41 ∷ []), (c.args.end ∷ []), some_figure 41, refl, refl) c.in-err-to-3.ensures)))))
+pub bracket-returns-in_err-to-3 : goal.bracket-returns-in_err-to-3
+bracket-returns-in_err-to-3 t c =
+    let p = err_from_is_err_and c.from_residual-in_err-to-3.result c.from_residual-in_err-to-3.ensures.1 in
+    rw (p.1, p.2) (bracket_stops c.args.text.now c.args.at c.args.end c.requires.opens (then_stops free c.in_ok-to.ensures (then_stops (record { so = λ y w k d g. by_operator y.0 w k d }) c.in_ok-to-2.ensures.1 (then_stops free c.in_ok-node.ensures.2 (stops_then free ((fixed (pos 0)), tt) (48 ∷ 41 ∷ c.args.end ∷ []) ((48 ∷ 41 ∷ []), (c.args.end ∷ []), some_figure 41, refl, refl) c.in_err-to-3.ensures)))))
 
-pub bracket-returns-in-err-to-4 : goal.bracket-returns-in-err-to-4
-bracket-returns-in-err-to-4 t c =
-    let p = err_from_is_err_and c.from-residual-in-err-to-4.result c.from-residual-in-err-to-4.ensures.1 in
-    rw (p.1, p.2) (bracket_stops c.args.text.now c.args.at c.args.end c.requires.opens (then_stops free c.in_ok-to.ensures (then_stops (record { so = λ y w k d g. by_operator y.0 w k d }) c.in_ok-to-2.ensures.1 (then_stops free c.in-ok-node.ensures.2 (then_stops free c.in_ok-to-3.ensures (stops_then (by_end c.requires.plain) tt (c.args.end ∷ []) refl c.in-err-to-4.ensures))))))
+pub bracket-returns-in_err-to-4 : goal.bracket-returns-in_err-to-4
+bracket-returns-in_err-to-4 t c =
+    let p = err_from_is_err_and c.from_residual-in_err-to-4.result c.from_residual-in_err-to-4.ensures.1 in
+    rw (p.1, p.2) (bracket_stops c.args.text.now c.args.at c.args.end c.requires.opens (then_stops free c.in_ok-to.ensures (then_stops (record { so = λ y w k d g. by_operator y.0 w k d }) c.in_ok-to-2.ensures.1 (then_stops free c.in_ok-node.ensures.2 (then_stops free c.in_ok-to-3.ensures (stops_then (by_end c.requires.plain) tt (c.args.end ∷ []) refl c.in_err-to-4.ensures))))))
 
-pub bracket-returns-in-err-to-5 : goal.bracket-returns-in-err-to-5
-bracket-returns-in-err-to-5 t c =
-    let p = err_from_is_err_and c.from-residual-in-err-to-5.result c.from-residual-in-err-to-5.ensures.1 in
-    rw (p.1, p.2) (bracket_stops c.args.text.now c.args.at c.args.end c.requires.opens (then_stops free c.in_ok-to.ensures (then_stops (record { so = λ y w k d g. by_operator y.0 w k d }) c.in_ok-to-2.ensures.1 (then_stops free c.in-ok-node.ensures.2 (then_stops free c.in_ok-to-3.ensures (then_stops (by_end c.requires.plain) c.in_ok-to-4.ensures.1 (calm_stops c.in-err-to-5.ensures)))))))
+pub bracket-returns-in_err-to-5 : goal.bracket-returns-in_err-to-5
+bracket-returns-in_err-to-5 t c =
+    let p = err_from_is_err_and c.from_residual-in_err-to-5.result c.from_residual-in_err-to-5.ensures.1 in
+    rw (p.1, p.2) (bracket_stops c.args.text.now c.args.at c.args.end c.requires.opens (then_stops free c.in_ok-to.ensures (then_stops (record { so = λ y w k d g. by_operator y.0 w k d }) c.in_ok-to-2.ensures.1 (then_stops free c.in_ok-node.ensures.2 (then_stops free c.in_ok-to-3.ensures (then_stops (by_end c.requires.plain) c.in_ok-to-4.ensures.1 (calm_stops c.in_err-to-5.ensures)))))))
 
 pub bracket-returns : goal.bracket-returns
 bracket-returns t c =
     let e = c.in_ok-to-2.ensures in
-    let o = c.in-ok-node.ensures in
+    let o = c.in_ok-node.ensures in
     let g = c.in_ok-to-4.ensures in (
       applied o.0 e.0 g.0,
-      bracket_as c.args.text.now c.args.at c.args.end c.requires.opens (then_took free c.in_ok-to.ensures (then_took (record { so = λ y w k d g. by_operator y.0 w k d }) c.in_ok-to-2.ensures.1 (then_took free c.in-ok-node.ensures.2 (then_took free c.in_ok-to-3.ensures (then_took (by_end c.requires.plain) c.in_ok-to-4.ensures.1 (calm_took c.in-ok-to-5.ensures)))))),
+      bracket_as c.args.text.now c.args.at c.args.end c.requires.opens (then_took free c.in_ok-to.ensures (then_took (record { so = λ y w k d g. by_operator y.0 w k d }) c.in_ok-to-2.ensures.1 (then_took free c.in_ok-node.ensures.2 (then_took free c.in_ok-to-3.ensures (then_took (by_end c.requires.plain) c.in_ok-to-4.ensures.1 (calm_took c.in_ok-to-5.ensures)))))),
       λ ns h.
           let within = figure_nodes e.0 ++ figure_nodes g.0 in
           let held = grown_then (Plus ∷ []) within c.push.ensures (grown_then (figure_nodes e.0) (figure_nodes g.0) e.2 g.2) ns h in
           let done = c.put.ensures ns within Plus held (c.count-slot.ensures ns h) in
           subst (λ m. Holds c.put.new.self (ns ++ m)) (ap (λ m. m ∷ within) o.1 ∙ applied_nodes o.0 e.0 g.0) done,
       noted_map (bracket_numerals o.0 e.0 g.0 c.args.end)
-          (noted_then (noted_took c.in_ok-to.ensures) (noted_then e.3 (noted_then (noted_took o.2) (noted_then (noted_took c.in_ok-to-3.ensures) (noted_then g.3 (noted_took c.in-ok-to-5.ensures)))))),
+          (noted_then (noted_took c.in_ok-to.ensures) (noted_then e.3 (noted_then (noted_took o.2) (noted_then (noted_took c.in_ok-to-3.ensures) (noted_then g.3 (noted_took c.in_ok-to-5.ensures)))))),
     )
 
-pub larger-returns-in-err-to : goal.larger-returns-in-err-to
-larger-returns-in-err-to t c =
-    let p = err_from_is_err_and c.from-residual.result c.from-residual.ensures.1 in
-    rw (p.1, p.2) (larger_stops c.args.text.now c.args.at c.args.end c.requires.opens (stops_then free ((fixed (pos 0)), (tt, ((fixed (pos 0)), tt))) (48 ∷ 44 ∷ 32 ∷ 48 ∷ 41 ∷ c.args.end ∷ []) ((48 ∷ 44 ∷ []), (32 ∷ 48 ∷ 41 ∷ c.args.end ∷ []), some_figure 44, ((32 ∷ []), (48 ∷ 41 ∷ c.args.end ∷ []), refl, ((48 ∷ 41 ∷ []), (c.args.end ∷ []), some_figure 41, refl, refl), refl), refl) c.in-err-to.ensures))
+pub larger-returns-in_err-to : goal.larger-returns-in_err-to
+larger-returns-in_err-to t c =
+    let p = err_from_is_err_and c.from_residual.result c.from_residual.ensures.1 in
+    rw (p.1, p.2) (larger_stops c.args.text.now c.args.at c.args.end c.requires.opens (stops_then free ((fixed (pos 0)), (tt, ((fixed (pos 0)), tt))) (48 ∷ 44 ∷ 32 ∷ 48 ∷ 41 ∷ c.args.end ∷ []) ((48 ∷ 44 ∷ []), (32 ∷ 48 ∷ 41 ∷ c.args.end ∷ []), some_figure 44, ((32 ∷ []), (48 ∷ 41 ∷ c.args.end ∷ []), refl, ((48 ∷ 41 ∷ []), (c.args.end ∷ []), some_figure 41, refl, refl), refl), refl) c.in_err-to.ensures))
 
-pub larger-returns-in-err-to-2 : goal.larger-returns-in-err-to-2
-larger-returns-in-err-to-2 t c =
-    let p = err_from_is_err_and c.from-residual-in-err-to-2.result c.from-residual-in-err-to-2.ensures.1 in
-    rw (p.1, p.2) (larger_stops c.args.text.now c.args.at c.args.end c.requires.opens (then_stops free c.in_ok-to.ensures (stops_then (record { so = λ y w k d g. by_word w k d refl }) (tt, ((fixed (pos 0)), tt)) (32 ∷ 48 ∷ 41 ∷ c.args.end ∷ []) ((32 ∷ []), (48 ∷ 41 ∷ c.args.end ∷ []), refl, ((48 ∷ 41 ∷ []), (c.args.end ∷ []), some_figure 41, refl, refl), refl) c.in-err-to-2.ensures)))
+pub larger-returns-in_err-to-2 : goal.larger-returns-in_err-to-2
+larger-returns-in_err-to-2 t c =
+    let p = err_from_is_err_and c.from_residual-in_err-to-2.result c.from_residual-in_err-to-2.ensures.1 in
+    rw (p.1, p.2) (larger_stops c.args.text.now c.args.at c.args.end c.requires.opens (then_stops free c.in_ok-to.ensures (stops_then (record { so = λ y w k d g. by_word w k d refl }) (tt, ((fixed (pos 0)), tt)) (32 ∷ 48 ∷ 41 ∷ c.args.end ∷ []) ((32 ∷ []), (48 ∷ 41 ∷ c.args.end ∷ []), refl, ((48 ∷ 41 ∷ []), (c.args.end ∷ []), some_figure 41, refl, refl), refl) c.in_err-to-2.ensures)))
 
-pub larger-returns-in-err-to-3 : goal.larger-returns-in-err-to-3
-larger-returns-in-err-to-3 t c =
-    let p = err_from_is_err_and c.from-residual-in-err-to-3.result c.from-residual-in-err-to-3.ensures.1 in
-    rw (p.1, p.2) (larger_stops c.args.text.now c.args.at c.args.end c.requires.opens (then_stops free c.in_ok-to.ensures (then_stops (record { so = λ y w k d g. by_word w k d refl }) c.in_ok-to-2.ensures.1 (stops_then free ((fixed (pos 0)), tt) (48 ∷ 41 ∷ c.args.end ∷ []) ((48 ∷ 41 ∷ []), (c.args.end ∷ []), some_figure 41, refl, refl) c.in-err-to-3.ensures))))
+pub larger-returns-in_err-to-3 : goal.larger-returns-in_err-to-3
+larger-returns-in_err-to-3 t c =
+    let p = err_from_is_err_and c.from_residual-in_err-to-3.result c.from_residual-in_err-to-3.ensures.1 in
+    rw (p.1, p.2) (larger_stops c.args.text.now c.args.at c.args.end c.requires.opens (then_stops free c.in_ok-to.ensures (then_stops (record { so = λ y w k d g. by_word w k d refl }) c.in_ok-to-2.ensures.1 (stops_then free ((fixed (pos 0)), tt) (48 ∷ 41 ∷ c.args.end ∷ []) ((48 ∷ 41 ∷ []), (c.args.end ∷ []), some_figure 41, refl, refl) c.in_err-to-3.ensures))))
 
-pub larger-returns-in-err-to-4 : goal.larger-returns-in-err-to-4
-larger-returns-in-err-to-4 t c =
-    let p = err_from_is_err_and c.from-residual-in-err-to-4.result c.from-residual-in-err-to-4.ensures.1 in
-    rw (p.1, p.2) (larger_stops c.args.text.now c.args.at c.args.end c.requires.opens (then_stops free c.in_ok-to.ensures (then_stops (record { so = λ y w k d g. by_word w k d refl }) c.in_ok-to-2.ensures.1 (then_stops free c.in_ok-to-3.ensures (stops_then (by_end c.requires.plain) tt (c.args.end ∷ []) refl c.in-err-to-4.ensures)))))
+pub larger-returns-in_err-to-4 : goal.larger-returns-in_err-to-4
+larger-returns-in_err-to-4 t c =
+    let p = err_from_is_err_and c.from_residual-in_err-to-4.result c.from_residual-in_err-to-4.ensures.1 in
+    rw (p.1, p.2) (larger_stops c.args.text.now c.args.at c.args.end c.requires.opens (then_stops free c.in_ok-to.ensures (then_stops (record { so = λ y w k d g. by_word w k d refl }) c.in_ok-to-2.ensures.1 (then_stops free c.in_ok-to-3.ensures (stops_then (by_end c.requires.plain) tt (c.args.end ∷ []) refl c.in_err-to-4.ensures)))))
 
 pub larger-returns : goal.larger-returns
 larger-returns t c =

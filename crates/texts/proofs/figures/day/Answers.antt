@@ -6,15 +6,15 @@ use Rattle.texts.proofs.FigureParts.{day_as, day_stops}
 use Rattle.texts.proofs.Notes.{noted_then, noted_took}
 use Rattle.texts.proofs.figures.day.Goals as goal
 
-pub returns-in-err-to : goal.returns-in-err-to
-returns-in-err-to c =
-    let p = err_from_is_err_and c.from-residual.result c.from-residual.ensures.1 in
-    rw (p.1, p.2) (day_stops c.args.text.now c.args.at c.args.end c.requires.opens (stops_then free tt (c.args.end ∷ []) refl c.in-err-to.ensures))
+pub returns-in_err-to : goal.returns-in_err-to
+returns-in_err-to c =
+    let p = err_from_is_err_and c.from_residual.result c.from_residual.ensures.1 in
+    rw (p.1, p.2) (day_stops c.args.text.now c.args.at c.args.end c.requires.opens (stops_then free tt (c.args.end ∷ []) refl c.in_err-to.ensures))
 
-pub returns-in-err-to-2 : goal.returns-in-err-to-2
-returns-in-err-to-2 c =
-    let p = err_from_is_err_and c.from-residual-in-err-to-2.result c.from-residual-in-err-to-2.ensures.1 in
-    rw (p.1, p.2) (day_stops c.args.text.now c.args.at c.args.end c.requires.opens (then_stops free c.in_ok-to.ensures (calm_stops c.in-err-to-2.ensures)))
+pub returns-in_err-to-2 : goal.returns-in_err-to-2
+returns-in_err-to-2 c =
+    let p = err_from_is_err_and c.from_residual-in_err-to-2.result c.from_residual-in_err-to-2.ensures.1 in
+    rw (p.1, p.2) (day_stops c.args.text.now c.args.at c.args.end c.requires.opens (then_stops free c.in_ok-to.ensures (calm_stops c.in_err-to-2.ensures)))
 
 pub returns : goal.returns
 returns c = (

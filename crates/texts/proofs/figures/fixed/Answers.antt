@@ -9,15 +9,15 @@ use Rattle.texts.proofs.FigureParts.{fixed_as, fixed_stops}
 use Rattle.texts.proofs.Notes.{noted_then, noted_took}
 use Rattle.texts.proofs.figures.fixed.Goals as goal
 
-pub returns-in-err-a : goal.returns-in-err-a
-returns-in-err-a c =
-    let p = err_from_is_err_and c.from-residual.result c.from-residual.ensures.1 in
-    rw (p.1, p.2) (fixed_stops c.args.text.now c.args.at c.args.end c.requires.opens (stops_then (by_end c.requires.plain) tt (c.args.end ∷ []) refl c.in-err-a.ensures))
+pub returns-in_err-a : goal.returns-in_err-a
+returns-in_err-a c =
+    let p = err_from_is_err_and c.from_residual.result c.from_residual.ensures.1 in
+    rw (p.1, p.2) (fixed_stops c.args.text.now c.args.at c.args.end c.requires.opens (stops_then (by_end c.requires.plain) tt (c.args.end ∷ []) refl c.in_err-a.ensures))
 
-pub returns-in-err-to : goal.returns-in-err-to
-returns-in-err-to c =
-    let p = err_from_is_err_and c.from-residual-in-err-to.result c.from-residual-in-err-to.ensures.1 in
-    rw (p.1, p.2) (fixed_stops c.args.text.now c.args.at c.args.end c.requires.opens (then_stops (by_end c.requires.plain) c.in_ok-a.ensures.2 (calm_stops c.in-err-to.ensures)))
+pub returns-in_err-to : goal.returns-in_err-to
+returns-in_err-to c =
+    let p = err_from_is_err_and c.from_residual-in_err-to.result c.from_residual-in_err-to.ensures.1 in
+    rw (p.1, p.2) (fixed_stops c.args.text.now c.args.at c.args.end c.requires.opens (then_stops (by_end c.requires.plain) c.in_ok-a.ensures.2 (calm_stops c.in_err-to.ensures)))
 
 pub returns : goal.returns
 returns c =

@@ -16,5 +16,5 @@ returns-in-42 c = (multiply, refl, operator_took c.args.text.now c.args.at multi
 pub returns-in-60 : goal.returns-in-60
 returns-in-60 c = (compare, refl, operator_took c.args.text.now c.args.at compare (sym c.byte_at.ensures ∙ c.in-60.is) (omega arith))
 
-pub returns-in-default : goal.returns-in-default
-returns-in-default c = operator_stops c.args.text.now c.args.at c.requires (elim [ add ↦ λ e. omega arith | subtract ↦ λ e. omega arith | multiply ↦ λ e. omega arith | compare ↦ λ e. omega arith ])
+pub returns-in_default : goal.returns-in_default
+returns-in_default c = operator_stops c.args.text.now c.args.at c.requires (elim [ add ↦ λ e. omega arith | subtract ↦ λ e. omega arith | multiply ↦ λ e. omega arith | compare ↦ λ e. omega arith ])

@@ -7,20 +7,20 @@ use Rattle.texts.specs.Ranges.{Counts}
 use Rattle.texts.proofs.Notes.{noted_then, noted_map, noted_took, noted_number, rate_numerals}
 use Rattle.texts.proofs.figures.rate.Goals as goal
 
-pub returns-in-err-to : goal.returns-in-err-to
-returns-in-err-to c =
-    let p = err_from_is_err_and c.from-residual.result c.from-residual.ensures.1 in
-    rw (p.1, p.2) (rate_stops c.args.text.now c.args.at c.args.end c.requires.opens (stops_then free (0, 0) (48 ∷ c.args.end ∷ []) (48 ∷ [], c.args.end ∷ [], some_number, inr (refl, refl), refl) c.in-err-to.ensures))
+pub returns-in_err-to : goal.returns-in_err-to
+returns-in_err-to c =
+    let p = err_from_is_err_and c.from_residual.result c.from_residual.ensures.1 in
+    rw (p.1, p.2) (rate_stops c.args.text.now c.args.at c.args.end c.requires.opens (stops_then free (0, 0) (48 ∷ c.args.end ∷ []) (48 ∷ [], c.args.end ∷ [], some_number, inr (refl, refl), refl) c.in_err-to.ensures))
 
-pub returns-in-err-k : goal.returns-in-err-k
-returns-in-err-k c =
-    let p = err_from_is_err_and c.from-residual-in-err-k.result c.from-residual-in-err-k.ensures.1 in
-    rw (p.1, p.2) (rate_stops c.args.text.now c.args.at c.args.end c.requires.opens (then_stops free c.in_ok-to.ensures (stops_then (by_rate_end c.requires.plain) 0 (c.args.end ∷ []) (inr (refl, refl)) c.in-err-k.ensures)))
+pub returns-in_err-k : goal.returns-in_err-k
+returns-in_err-k c =
+    let p = err_from_is_err_and c.from_residual-in_err-k.result c.from_residual-in_err-k.ensures.1 in
+    rw (p.1, p.2) (rate_stops c.args.text.now c.args.at c.args.end c.requires.opens (then_stops free c.in_ok-to.ensures (stops_then (by_rate_end c.requires.plain) 0 (c.args.end ∷ []) (inr (refl, refl)) c.in_err-k.ensures)))
 
-pub returns-in-err-n : goal.returns-in-err-n
-returns-in-err-n c =
-    let p = err_from_is_err_and c.from-residual-in-err-n.result c.from-residual-in-err-n.ensures.1 in
-    rw (p.1, p.2) (rate_stops c.args.text.now c.args.at c.args.end c.requires.opens (then_stops free c.in_ok-to.ensures (then_stops (by_rate_end c.requires.plain) c.in_ok-k.ensures.2 c.in-err-n.ensures)))
+pub returns-in_err-n : goal.returns-in_err-n
+returns-in_err-n c =
+    let p = err_from_is_err_and c.from_residual-in_err-n.result c.from_residual-in_err-n.ensures.1 in
+    rw (p.1, p.2) (rate_stops c.args.text.now c.args.at c.args.end c.requires.opens (then_stops free c.in_ok-to.ensures (then_stops (by_rate_end c.requires.plain) c.in_ok-k.ensures.2 c.in_err-n.ensures)))
 
 pub returns : goal.returns
 returns c =

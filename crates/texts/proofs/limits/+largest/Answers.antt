@@ -9,14 +9,14 @@ returns-then-falling-eq0 t c = record { is = grind (arith, nat_tests, largest_no
 pub returns-in-Some : goal.returns-in-Some
 returns-in-Some t c = record { is = grind (arith, nat_tests, largest_step); low = grind (arith, nat_tests) }
 
-pub returns-in-default-largest : goal.returns-in-default-largest
-returns-in-default-largest t c = record { is = grind (arith, nat_tests, largest_step); low = tt }
+pub returns-in_default-largest : goal.returns-in_default-largest
+returns-in_default-largest t c = record { is = grind (arith, nat_tests, largest_step); low = tt }
 
-pub returns-in-default-largest-2 : goal.returns-in-default-largest-2
-returns-in-default-largest-2 t c = record { is = grind (arith, nat_tests, largest_step); low = tt }
+pub returns-in_default-largest-2 : goal.returns-in_default-largest-2
+returns-in_default-largest-2 t c = record { is = grind (arith, nat_tests, largest_step); low = tt }
 
-pub returns-in-default-joined : goal.returns-in-default-joined
-returns-in-default-joined t c = record { is = grind (arith, nat_tests, largest_step); low = tt }
+pub returns-in_default-joined : goal.returns-in_default-joined
+returns-in_default-joined t c = record { is = grind (arith, nat_tests, largest_step); low = tt }
 
 pub returns : goal.returns
 returns t c = record { is = grind (arith, nat_tests, largest_step); low = grind (arith, nat_tests) }

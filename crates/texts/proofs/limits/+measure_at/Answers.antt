@@ -14,14 +14,14 @@ returns-in-Some t c = record {
   low = single_low c.args.nodes.now c.args.at c.moderate.result (get_or c.args.nodes.now c.args.at Nothing) c.in-Some.m (sym c.single.ensures ∙ c.in-Some.is) (omega arith) c.moderate.ensures;
 }
 
-pub returns-in-default-scale : goal.returns-in-default-scale
-returns-in-default-scale t c = record { is = grind (arith, nat_tests, measured_step); low = tt }
+pub returns-in_default-scale : goal.returns-in_default-scale
+returns-in_default-scale t c = record { is = grind (arith, nat_tests, measured_step); low = tt }
 
-pub returns-in-default-measure-at : goal.returns-in-default-measure-at
-returns-in-default-measure-at t c = record { is = grind (arith, nat_tests, measured_step); low = tt }
+pub returns-in_default-measure_at : goal.returns-in_default-measure_at
+returns-in_default-measure_at t c = record { is = grind (arith, nat_tests, measured_step); low = tt }
 
-pub returns-in-default-measure-at-2 : goal.returns-in-default-measure-at-2
-returns-in-default-measure-at-2 t c = record { is = grind (arith, nat_tests, measured_step); low = tt }
+pub returns-in_default-measure_at-2 : goal.returns-in_default-measure_at-2
+returns-in_default-measure_at-2 t c = record { is = grind (arith, nat_tests, measured_step); low = tt }
 
 pub returns-then-pair : goal.returns-then-pair
 returns-then-pair t c =
@@ -32,8 +32,8 @@ returns-then-pair t c =
           c.in-Some-measure_at.ensures.low c.in-Some-measure_at-2.ensures.low (omega arith) (c.moderate-then-pair.ensures ∙ ap bounded c.both.ensures);
     }
 
-pub returns-in-default-under : goal.returns-in-default-under
-returns-in-default-under t c = record { is = grind (arith, nat_tests, measured_step); low = tt }
+pub returns-in_default-under : goal.returns-in_default-under
+returns-in_default-under t c = record { is = grind (arith, nat_tests, measured_step); low = tt }
 
 pub returns : goal.returns
 returns t c =

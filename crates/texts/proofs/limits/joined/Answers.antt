@@ -16,5 +16,5 @@ returns-in-Times c = ap (λ n. Some n) (add-one c.over_million.result ∙ ap suc
 pub returns-in-Less : goal.returns-in-Less
 returns-in-Less c = sym (ap (λ n. joined_size n c.args.e c.args.f) c.in-Less.is)
 
-pub returns-in-default : goal.returns-in-default
-returns-in-default c = sym (joined_none c.args.e c.args.f c.args.node c.in-default.not-Plus c.in-default.not-Minus c.in-default.not-Times c.in-default.not-Max c.in-default.not-Less)
+pub returns-in_default : goal.returns-in_default
+returns-in_default c = sym (joined_none c.args.e c.args.f c.args.node c.in_default.not-Plus c.in_default.not-Minus c.in_default.not-Times c.in_default.not-Max c.in_default.not-Less)

@@ -15,5 +15,5 @@ returns-in-Rate c = sym (ap leaf_size c.in-Rate.is)
 pub returns-in-Day : goal.returns-in-Day
 returns-in-Day c = sym (ap leaf_size c.in-Day.is)
 
-pub returns-in-default : goal.returns-in-default
-returns-in-default c = sym (leaf_none c.args.node c.in-default.not-Fixed c.in-default.not-Rate c.in-default.not-Day)
+pub returns-in_default : goal.returns-in_default
+returns-in_default c = sym (leaf_none c.args.node c.in_default.not-Fixed c.in_default.not-Rate c.in_default.not-Day)

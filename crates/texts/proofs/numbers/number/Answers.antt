@@ -3,8 +3,8 @@ use Rattle.std.proofs.lemmas.Result.{MatchResult-weaker}
 use Rattle.texts.proofs.Numerals.{zero_took, number_took, number_stops}
 use Rattle.texts.proofs.numbers.number.Goals as goal
 
-pub returns-then-byte-at-eq48 : goal.returns-then-byte-at-eq48
-returns-then-byte-at-eq48 c = (0, refl, zero_took c.args.text.now c.args.at (sym c.byte_at.ensures ∙ c.if-byte_at-eq48.true))
+pub returns-then-byte_at-eq48 : goal.returns-then-byte_at-eq48
+returns-then-byte_at-eq48 c = (0, refl, zero_took c.args.text.now c.args.at (sym c.byte_at.ensures ∙ c.if-byte_at-eq48.true))
 
 pub returns : goal.returns
 returns c = MatchResult-weaker c.positive.result c.positive.ensures

@@ -5,8 +5,8 @@ use Rattle.texts.specs.Reading.{byte_at, capped}
 use Rattle.texts.proofs.Numerals.{positive_stops, positive_took, digits_more, spelt_more, digit_within, capped_more, clash}
 use Rattle.texts.proofs.numbers.positive.Goals as goal
 
-pub returns-in-default : goal.returns-in-default
-returns-in-default c = positive_stops c.args.text.now c.args.at c.requires (λ d. absurd (clash _ d c.in-default.ensures))
+pub returns-in_default : goal.returns-in_default
+returns-in_default c = positive_stops c.args.text.now c.args.at c.requires (λ d. absurd (clash _ d c.in_default.ensures))
 
 pub returns-then-first-eq0 : goal.returns-then-first-eq0
 returns-then-first-eq0 c = positive_stops c.args.text.now c.args.at c.requires (λ d. omega (arith, c.in-Some.ensures.1))

@@ -10,22 +10,22 @@ returns-then-text-gt8192 c = (too_long c.if-text-gt8192.true, omega arith)
 pub returns-in-Err : goal.returns-in-Err
 returns-in-Err c = let r = c.in-Err.ensures in (no_contract c.if-text-gt8192.false r, r.within)
 
-pub returns-then-not-within-limits : goal.returns-then-not-within-limits
-returns-then-not-within-limits c =
-    let r = c.in-default.ensures in
-    let far = when_false _ _ c.if-not-within-limits.true (c.within-limits.ensures r.contract r.read.held) in
+pub returns-then-not-within_limits : goal.returns-then-not-within_limits
+returns-then-not-within_limits c =
+    let r = c.in_default.ensures in
+    let far = when_false _ _ c.if-not-within_limits.true (c.within_limits.ensures r.contract r.read.held) in
     (past_limits r.contract c.if-text-gt8192.false r.read.text_of far, omega arith)
 
 pub returns-in-Some : goal.returns-in-Some
 returns-in-Some c =
-    let r = c.in-default.ensures in
-    let near = when_true _ _ c.if-not-within-limits.false (c.within-limits.ensures r.contract r.read.held) in
+    let r = c.in_default.ensures in
+    let near = when_true _ _ c.if-not-within_limits.false (c.within_limits.ensures r.contract r.read.held) in
     let f = found c.args.rates c.args.currencies c.args.text.now _ _ r.contract c.new-ranges.ensures r.noted in
     refused_number c.args.rates c.args.currencies c.args.text.now r.contract _ c.in-Some.place f c.in-Some.is c.if-text-gt8192.false r.read.text_of near
 
 pub returns-in-None : goal.returns-in-None
 returns-in-None c =
-    let r = c.in-default.ensures in
-    let near = when_true _ _ c.if-not-within-limits.false (c.within-limits.ensures r.contract r.read.held) in
+    let r = c.in_default.ensures in
+    let near = when_true _ _ c.if-not-within_limits.false (c.within_limits.ensures r.contract r.read.held) in
     let f = found c.args.rates c.args.currencies c.args.text.now _ _ r.contract c.new-ranges.ensures r.noted in
     (r.contract, taken_all c.args.rates c.args.currencies c.args.text.now r.contract _ f c.in-None.is c.if-text-gt8192.false r.read.text_of near, r.read.held)

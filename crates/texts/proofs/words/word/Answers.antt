@@ -8,8 +8,8 @@ pub returns : goal.returns
 returns c =
     word_took c.args.text.now c.args.expected.now c.args.at c.loop-b.to (omega arith) c.loop-b.invariant.1 (c.loop-b.invariant.2 ∙ take_all c.loop-b.b-index c.args.expected.now (omega arith))
 
-pub returns-then-byte-at-b : goal.returns-then-byte-at-b
-returns-then-byte-at-b c =
+pub returns-then-byte_at-b : goal.returns-then-byte_at-b
+returns-then-byte_at-b c =
     word_stops c.args.text.now c.args.expected.now c.args.at c.loop-b.to c.loop-b.b-index (omega arith) c.loop-b.invariant.1 c.loop-b-test.true c.loop-b.invariant.2 (λ e. c.if-byte_at-b.true (c.byte_at.ensures ∙ e))
 
 pub loop-b-preserved : goal.loop-b-preserved

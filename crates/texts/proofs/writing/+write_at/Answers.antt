@@ -13,8 +13,8 @@ returns-then-falling-eq0 t c = grind (arith, nat_tests, contract_none)
 pub returns-then-figural : goal.returns-then-figural
 returns-then-figural t c = grind (arith, nat_tests, contract_step)
 
-pub returns-in-default : goal.returns-in-default
-returns-in-default t c = grind (arith, nat_tests, contract_step)
+pub returns-in_default : goal.returns-in_default
+returns-in_default t c = grind (arith, nat_tests, contract_step)
 
 pub returns-then-single : goal.returns-then-single
 returns-then-single t c =
@@ -22,11 +22,11 @@ returns-then-single t c =
     let behind = f.put.behind in
     record { text = f.word; is = grind (arith, nat_tests, contract_step); put = f.put; on = omega arith; within = omega arith; low = omega (arith, f.short) }
 
-pub returns-in-default-write-scale : goal.returns-in-default-write-scale
-returns-in-default-write-scale t c = grind (arith, nat_tests, contract_step)
+pub returns-in_default-write_scale : goal.returns-in_default-write_scale
+returns-in_default-write_scale t c = grind (arith, nat_tests, contract_step)
 
-pub returns-in-default-write-at : goal.returns-in-default-write-at
-returns-in-default-write-at t c = grind (arith, nat_tests, contract_step)
+pub returns-in_default-write_at : goal.returns-in_default-write_at
+returns-in_default-write_at t c = grind (arith, nat_tests, contract_step)
 
 pub returns-then-not-pair : goal.returns-then-not-pair
 returns-then-not-pair t c =
@@ -34,7 +34,7 @@ returns-then-not-pair t c =
     let s = c.in-Some-write_scale.ensures in
     let x = c.in-Some-write_at.ensures in
     let node = get_or c.args.nodes.now c.args.at Nothing in
-    let e : Put c.write-at.new.out c.put-word.new.out c.in-Some-write_at.next (behind_word node) c.put-word.result = put_as c.ending.ensures c.put-word.ensures in
+    let e : Put c.write_at.new.out c.put_word.new.out c.in-Some-write_at.next (behind_word node) c.put_word.result = put_as c.ending.ensures c.put_word.ensures in
     record {
       text = f.word ++ (s.text ++ (x.text ++ behind_word node));
       is = grind (arith, nat_tests, contract_step);
@@ -44,8 +44,8 @@ returns-then-not-pair t c =
       low = omega (arith, f.short, f.put.behind, s.low, x.low, e.behind, behind_short node);
     }
 
-pub returns-in-default-write-at-2 : goal.returns-in-default-write-at-2
-returns-in-default-write-at-2 t c = grind (arith, nat_tests, contract_step)
+pub returns-in_default-write_at-2 : goal.returns-in_default-write_at-2
+returns-in_default-write_at-2 t c = grind (arith, nat_tests, contract_step)
 
 pub returns : goal.returns
 returns t c =
@@ -54,10 +54,10 @@ returns t c =
     let x = c.in-Some-write_at.ensures in
     let y = c.in-Some-write_at-2.ensures in
     let node = get_or c.args.nodes.now c.args.at Nothing in
-    let m : Put c.write-at.new.out c.put-word-next.new.out c.in-Some-write_at.next (between_word node) c.put-word-next.result =
-    put_as c.middle.ensures c.put-word-next.ensures in
-    let e : Put c.write-at-2.new.out c.put-word-2.new.out c.in-Some-write_at-2.next (behind_word node) c.put-word-2.result =
-    put_as c.ending-2.ensures c.put-word-2.ensures in
+    let m : Put c.write_at.new.out c.put_word-next.new.out c.in-Some-write_at.next (between_word node) c.put_word-next.result =
+    put_as c.middle.ensures c.put_word-next.ensures in
+    let e : Put c.write_at-2.new.out c.put_word-2.new.out c.in-Some-write_at-2.next (behind_word node) c.put_word-2.result =
+    put_as c.ending-2.ensures c.put_word-2.ensures in
     record {
       text = f.word ++ (s.text ++ (x.text ++ (between_word node ++ (y.text ++ behind_word node))));
       is = grind (arith, nat_tests, contract_step);

@@ -13,8 +13,8 @@ returns-then-falling-eq0 t c = grind (arith, nat_tests, figure_none)
 pub returns-then-not-figural : goal.returns-then-not-figural
 returns-then-not-figural t c = grind (arith, nat_tests, figure_step)
 
-pub returns-in-default : goal.returns-in-default
-returns-in-default t c = grind (arith, nat_tests, figure_step)
+pub returns-in_default : goal.returns-in_default
+returns-in_default t c = grind (arith, nat_tests, figure_step)
 
 pub returns-then-single : goal.returns-then-single
 returns-then-single t c =
@@ -29,22 +29,22 @@ returns-then-single t c =
       low = omega (arith, f.short);
     }
 
-pub returns-in-default-write-figure : goal.returns-in-default-write-figure
-returns-in-default-write-figure t c = grind (arith, nat_tests, figure_step)
+pub returns-in_default-write_figure : goal.returns-in_default-write_figure
+returns-in_default-write_figure t c = grind (arith, nat_tests, figure_step)
 
-pub returns-in-default-write-figure-2 : goal.returns-in-default-write-figure-2
-returns-in-default-write-figure-2 t c = grind (arith, nat_tests, figure_step)
+pub returns-in_default-write_figure-2 : goal.returns-in_default-write_figure-2
+returns-in_default-write_figure-2 t c = grind (arith, nat_tests, figure_step)
 
 pub returns : goal.returns
 returns t c =
     let f = c.in-Some.ensures in
-    let x = c.in-Some-write-figure.ensures in
-    let y = c.in-Some-write-figure-2.ensures in
+    let x = c.in-Some-write_figure.ensures in
+    let y = c.in-Some-write_figure-2.ensures in
     let node = get_or c.args.nodes.now c.args.at Nothing in
-    let m : Put c.write-figure.new.out c.put-word-next.new.out c.in-Some-write-figure.next (between_word node) c.put-word-next.result =
-    put_as c.middle.ensures c.put-word-next.ensures in
-    let e : Put c.write-figure-2.new.out c.put-word.new.out c.in-Some-write-figure-2.next (behind_word node) c.put-word.result =
-    put_as c.ending.ensures c.put-word.ensures in
+    let m : Put c.write_figure.new.out c.put_word-next.new.out c.in-Some-write_figure.next (between_word node) c.put_word-next.result =
+    put_as c.middle.ensures c.put_word-next.ensures in
+    let e : Put c.write_figure-2.new.out c.put_word.new.out c.in-Some-write_figure-2.next (behind_word node) c.put_word.result =
+    put_as c.ending.ensures c.put_word.ensures in
     record {
       text = f.word ++ (x.text ++ (between_word node ++ (y.text ++ behind_word node)));
       is = grind (arith, nat_tests, figure_step);

@@ -5,11 +5,11 @@ use Rattle.texts.proofs.writing.put_rate.Goals as goal
 pub returns-then-n-eq0 : goal.returns-then-n-eq0
 returns-then-n-eq0 c = put_rate_none c.args.k c.args.n c.if-n-eq0.true (put_then c.put_word-next.ensures c.put_number-next.ensures)
 
-pub put-word-next-requires-2 : goal.put-word-next-requires-2
-put-word-next-requires-2 c = omega (arith, c.put_number-next.ensures.behind, word_length c.args.k (omega arith), c.put_word-next.ensures.behind)
+pub put_word-next-requires-2 : goal.put_word-next-requires-2
+put_word-next-requires-2 c = omega (arith, c.put_number-next.ensures.behind, word_length c.args.k (omega arith), c.put_word-next.ensures.behind)
 
-pub put-number-requires : goal.put-number-requires
-put-number-requires c =
+pub put_number-requires : goal.put_number-requires
+put_number-requires c =
     omega (arith, c.put_number-next.ensures.behind, word_length c.args.k (omega arith), c.put_word-next.ensures.behind, c.put_word-next-2.ensures.behind)
 
 pub returns : goal.returns

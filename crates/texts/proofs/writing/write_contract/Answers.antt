@@ -7,9 +7,9 @@ use Rattle.texts.proofs.Standing.{nodes_length}
 use Rattle.texts.proofs.Rewritten.{held, spelled_row, row_of, row_some, wrote_out, only_row}
 use Rattle.texts.proofs.writing.write_contract.Goals as goal
 
-pub returns-in-default : goal.returns-in-default
-returns-in-default c =
-    (λ x h few. c.in-default.ensures (written (held x)) (spelled_row x c.row-nodes.result.now (c.row-nodes.ensures.all (nodes_of x) h (omega (arith, nodes_length x))) few), refl)
+pub returns-in_default : goal.returns-in_default
+returns-in_default c =
+    (λ x h few. c.in_default.ensures (written (held x)) (spelled_row x c.row-nodes.result.now (c.row-nodes.ensures.all (nodes_of x) h (omega (arith, nodes_length x))) few), refl)
 
 pub returns-then-out-long : goal.returns-then-out-long
 returns-then-out-long c =

@@ -16,9 +16,9 @@ returns-else-limit-number c rs cs n ks h e = record {
   first_is = first_within c.args.self.now.first ks c.args.at c.args.number c.args.limit n c.in-None.is h.first_is e c.if-limit-number.false (omega arith);
 }
 
-pub returns-in-default : goal.returns-in-default
-returns-in-default c rs cs n ks h e = record {
+pub returns-in_default : goal.returns-in_default
+returns-in_default c rs cs n ks h e = record {
   rates_are = h.rates_are;
   currencies_are = h.currencies_are;
-  first_is = first_before c.args.self.now.first ks (record { place = c.args.at; limit = c.args.limit; value = n } ∷ []) c.in-default.not-None h.first_is;
+  first_is = first_before c.args.self.now.first ks (record { place = c.args.at; limit = c.args.limit; value = n } ∷ []) c.in_default.not-None h.first_is;
 }
