@@ -1,15 +1,18 @@
-use Rattle.std.proofs.Common.{[], ◌∷◌, ◌++◌, pos, codes, refl, ap, ◌∙◌, subst}
+use Rattle.std.proofs.Common.{[], ◌∷◌, ◌++◌, pos, codes, refl, ap, ◌∙◌, subst, rules, arith}
 use Rattle.std.proofs.lemmas.Result.{err_from_is_err_and, MatchResult-weaker}
 use Rattle.deals.specs.Contract.{fixed, most}
 use Rattle.texts.specs.Figures.{applied, add}
 use Rattle.texts.specs.Nodes.{Holds, figure_nodes}
 use Rattle.texts.specs.declared.nodes.Node.TheVariants.{Plus, Max}
 use Rattle.texts.proofs.Rows.{grown_then, applied_nodes}
-use Rattle.texts.proofs.Parts.{free, by_word, by_end, then_took, then_stops, stops_then, calm_took, calm_stops}
+use Rattle.texts.proofs.Parts.{free, by_word, by_end, then_took, then_stops, stops_then, calm_took, calm_stops, word_long}
 use Rattle.texts.proofs.FigureParts.{some_figure, by_operator, bracket_as, bracket_stops, larger_as, larger_stops}
 use Rattle.texts.specs.Bounds.{FigureNumerals}
 use Rattle.texts.proofs.Notes.{noted_then, noted_map, noted_took, next_spelt, bracket_numerals}
 use Rattle.texts.proofs.figures.+bracket_figure_larger.Goals as goal
+
+pub bracket-figure-requires : goal.bracket-figure-requires
+bracket-figure-requires t c = let long = word_long c.in_ok-to.ensures in search rules
 
 pub bracket-returns-in_err-to : goal.bracket-returns-in_err-to
 bracket-returns-in_err-to t c =
