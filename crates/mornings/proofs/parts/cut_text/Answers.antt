@@ -9,7 +9,7 @@ returns-in-Ok c =
 pub returns-in-Limit : goal.returns-in-Limit
 returns-in-Limit c =
     is_past c.args.today.stage c.args.today.start c.args.n c.args.bytes.now c.args.at c.requires.small c.requires.past c.requires.within
-    c.in-Err.e c.in-Limit.-p c.in-Limit.is c.in-Err.ensures.0
+    c.in-Err.e c.in-Limit._p c.in-Limit.is c.in-Err.ensures.0
 
 pub returns-then-p-bytes : goal.returns-then-p-bytes
 returns-then-p-bytes c =
