@@ -1,4 +1,4 @@
 use Rattle.residual.proofs.begin.+see_through.Given as goal
 
-abbrev pub decreases-see-through : goal.decreases-see-through
-decreases-see-through l = l.n
+abbrev pub decreases-see_through : goal.decreases-see_through
+decreases-see_through l = l.n

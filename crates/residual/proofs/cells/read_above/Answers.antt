@@ -11,6 +11,6 @@ pub returns-in-1 : goal.returns-in-1
 unfolding above_at above_in
 returns-in-1 c = grind (arith, nat_tests)
 
-pub returns-in-default : goal.returns-in-default
+pub returns-in_default : goal.returns-in_default
 unfolding above_at above_in
-returns-in-default c = grind (arith, nat_tests)
+returns-in_default c = grind (arith, nat_tests)

@@ -24,6 +24,6 @@ pub returns-in-4 : goal.returns-in-4
 unfolding node_at node_in
 returns-in-4 c = grind (arith, nat_tests)
 
-pub returns-in-default : goal.returns-in-default
+pub returns-in_default : goal.returns-in_default
 unfolding node_at node_in
-returns-in-default c = grind (arith, nat_tests)
+returns-in_default c = grind (arith, nat_tests)

@@ -11,4 +11,4 @@ returns-then-part-lt-PART c x rs cs is fits few t early long = absurd (omega (ar
 
 pub returns : goal.returns
 returns c x rs cs is fits few t early long =
-    rw (c.write-row.ensures, c.lay-end.ensures.bytes, c.lay-end.ensures.next) (opened c.args.part.now c.args.marks.now c.args.from x rs cs is fits few t early long)
+    rw (c.write_row.ensures, c.lay-end.ensures.bytes, c.lay-end.ensures.next) (opened c.args.part.now c.args.marks.now c.args.from x rs cs is fits few t early long)

@@ -14,9 +14,9 @@ loop-k-preserved c = (
   λ m lt.
       ⊎_elim
       (λ is.
-      subst (λ z. get_or (set c.loop-k.rows c.loop-k.k c.read-row.result) z no_row ≡ row_at c.args.part.now z) (sym is)
-      (get_or-set_same c.loop-k.rows c.loop-k.k c.read-row.result no_row (omega (arith, c.loop-k.invariant.0)) ∙ c.read-row.ensures))
-      (λ ne. get_or-set_other c.loop-k.rows c.loop-k.k m c.read-row.result no_row ne ∙ c.loop-k.invariant.1 m (omega arith)) (cases_eq m c.loop-k.k),
+      subst (λ z. get_or (set c.loop-k.rows c.loop-k.k c.read_row.result) z no_row ≡ row_at c.args.part.now z) (sym is)
+      (get_or-set_same c.loop-k.rows c.loop-k.k c.read_row.result no_row (omega (arith, c.loop-k.invariant.0)) ∙ c.read_row.ensures))
+      (λ ne. get_or-set_other c.loop-k.rows c.loop-k.k m c.read_row.result no_row ne ∙ c.loop-k.invariant.1 m (omega arith)) (cases_eq m c.loop-k.k),
 )
 
 pub returns : goal.returns

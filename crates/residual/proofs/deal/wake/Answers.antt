@@ -11,9 +11,9 @@ returns-then-part-lt-PART c n es slots num long h few_rows few_entries = absurd 
 pub returns : goal.returns
 returns c n es slots num long h few_rows few_entries =
     let count = c.args.kept.rows in
-    let rows = c.read-rows-rows.result in
+    let rows = c.read_rows-rows.result in
     let rs = take (count - 0) rows in
-    let many : length rs ≡ length slots = length-take-le (count - 0) rows (omega (arith, c.read-rows-rows.ensures.long, h.rows_are, h.few)) ∙ omega (arith, h.rows_are) in
+    let many : length rs ≡ length slots = length-take-le (count - 0) rows (omega (arith, c.read_rows-rows.ensures.long, h.rows_are, h.few)) ∙ omega (arith, h.rows_are) in
     deal_woken c.args.part.now c.args.kept n es slots rs c.args.due.now long h many
-    (λ m lt. get_or-take (count - 0) rows m no_row (omega (arith, h.rows_are)) ∙ c.read-rows-rows.ensures.rows m (omega (arith, h.rows_are))) few_rows few_entries c.wake-rows.new.part c.wake-rows.new.left c.wake-rows.new.due
-    (rw num c.wake-rows.ensures.bytes) (rw num c.wake-rows.ensures.left) (rw num c.wake-rows.ensures.due)
+    (λ m lt. get_or-take (count - 0) rows m no_row (omega (arith, h.rows_are)) ∙ c.read_rows-rows.ensures.rows m (omega (arith, h.rows_are))) few_rows few_entries c.wake_rows.new.part c.wake_rows.new.left c.wake_rows.new.due
+    (rw num c.wake_rows.ensures.bytes) (rw num c.wake_rows.ensures.left) (rw num c.wake_rows.ensures.due)

@@ -10,8 +10,8 @@ rows-init c = grind (arith)
 pub rows-preserved-then-t-row : goal.rows-preserved-then-t-row
 unfolding row_woken
 rows-preserved-then-t-row c =
-    let bytes = c.push-row.ensures.bytes c.rows.due in
-    let left = c.push-row.ensures.left c.rows.due in
+    let bytes = c.push_row.ensures.bytes c.rows.due in
+    let left = c.push_row.ensures.left c.rows.due in
     let due = row_keeps_due c.rows.part c.rows.left c.rows.due (get_or c.args.rows.now c.rows.k no_row) in
     grind (arith, nat_tests, woken_more)
 

@@ -28,6 +28,6 @@ pub returns-in-On : goal.returns-in-On
 unfolding by_mark
 returns-in-On t c = record { within = omega arith; next = grind (arith, nat_tests, to_z-of_z, laid_step); bytes = grind (arith, nat_tests, to_z-of_z, laid_step) }
 
-pub returns-in-default : goal.returns-in-default
+pub returns-in_default : goal.returns-in_default
 unfolding by_mark one_laid
-returns-in-default t c = record { within = omega arith; next = grind (arith, nat_tests, to_z-of_z, laid_step); bytes = grind (arith, nat_tests, to_z-of_z, laid_step) }
+returns-in_default t c = record { within = omega arith; next = grind (arith, nat_tests, to_z-of_z, laid_step); bytes = grind (arith, nat_tests, to_z-of_z, laid_step) }
