@@ -45,5 +45,5 @@ pub(crate) fn order_deals(deals: &[DealIn], keys: &mut [u64])
     ensures rising { IsNonDecreasing (take (length deals.now) keys.new) }
 {
     key_deals(deals, keys);
-    keys[0..deals.len()].sort();
+    keys[0..deals.len()].sort_unstable();
 }

@@ -49,6 +49,6 @@ pub(crate) fn order_waking(deals: &[u8], n: usize, t: u32, work: &mut [u64]) -> 
     ensures rising { IsNonDecreasing (take result work.new) }
 {
     let count = collect_waking(deals, n, t, work);
-    work[0..count].sort();
+    work[0..count].sort_unstable();
     count
 }
