@@ -8,14 +8,14 @@ use Rattle.settlement.proofs.settle.Goals as goal
 
 pub returns : goal.returns
 returns c h m num cs kept bounds fits =
-    let count = c.order-waking-count.result in
-    let work = c.order-waking-count.new.work in
+    let count = c.order_waking-count.result in
+    let work = c.order_waking-count.new.work in
     let ws = take count work in
     let front : take (count - 0) work ≡ ws = ap (λ z. take z work) (sub-zero count) in
     let walks =
     subst (λ z. Walks c.args.t c.args.currencies z c.args.deals.now c.args.payments.now c.walk.result c.walk.new.deals c.walk.new.payments) front c.walk.ensures in
-    settled c.args.t c.args.n c.args.deals.now h m num kept bounds c.requires.few c.args.currencies cs ws c.order-waking-count.ensures.shuffled c.order-waking-count.ensures.rising
+    settled c.args.t c.args.n c.args.deals.now h m num kept bounds c.requires.few c.args.currencies cs ws c.order_waking-count.ensures.shuffled c.order_waking-count.ensures.rising
     c.args.payments.now c.walk.result c.walk.new.deals c.walk.new.payments
     (walks c.args.n (sees h m) (λ d. get_or (deals_today h m) d gone)
-    (ready c.args.t c.args.n c.args.deals.now h m num kept bounds c.requires.few c.args.currencies cs ws c.order-waking-count.ensures.shuffled c.order-waking-count.ensures.rising
+    (ready c.args.t c.args.n c.args.deals.now h m num kept bounds c.requires.few c.args.currencies cs ws c.order_waking-count.ensures.shuffled c.order_waking-count.ensures.rising
     (length c.args.payments.now) fits))

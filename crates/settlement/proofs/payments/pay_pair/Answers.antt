@@ -33,8 +33,8 @@ loop-k-preserved c =
           ∙ ap (λ z. int_wrap w64 (z -ℤ gives)) (c.loop-k.invariant.2 k (omega arith))
           ∙ ap (λ z. int_wrap w64 (get_or c.args.gets.now k (pos 0) -ℤ z)) (c.loop-k.invariant.3 k (omega arith))
           ∙ amounts k (omega arith)) in
-          pair_more c.args.low c.args.high k (length c.args.gets.now) c.args.count sums was ps c.payment_of.result c.loop-k.count c.append-payment-count.result c.loop-k.payments
-          c.append-payment-count.new.payments (omega arith) w.count fits paid (c.append-payment-count.ensures was (ps ++ pair_payments k c.args.low c.args.high sums))
+          pair_more c.args.low c.args.high k (length c.args.gets.now) c.args.count sums was ps c.payment_of.result c.loop-k.count c.append_payment-count.result c.loop-k.payments
+          c.append_payment-count.new.payments (omega arith) w.count fits paid (c.append_payment-count.ensures was (ps ++ pair_payments k c.args.low c.args.high sums))
           (c.loop-k.invariant.4 was ps sums w amounts fits),
     )
 
