@@ -8,6 +8,6 @@ pub returns : goal.returns
 returns c o w k lt =
     let st = c.args.start in
     let xs = today_flows w.ds c.args.c c.args.deal w.contract in
-    let held = c.flow-deal.ensures w.ds w.contract w.coins w.are w.stands c.new-dues.ensures in
-    c.add-dues.ensures xs held (today_few st.rates st.currencies c.args.c w.ds c.args.deal w.contract w.stands.text.fits) k lt
+    let held = c.flow_deal.ensures w.ds w.contract w.coins w.are w.stands c.new-dues.ensures in
+    c.add_dues.ensures xs held (today_few st.rates st.currencies c.args.c w.ds c.args.deal w.contract w.stands.text.fits) k lt
     ∙ ap (λ z. int_wrap w64 (get_or c.args.sums.now k (pos 0) +ℤ z)) (adds_is st c.args.kept.now c.args.days.now c.args.deal c.args.c o w k)

@@ -13,7 +13,7 @@ loop-i-preserved c xs h few =
     let count = c.count.ensures xs h in
     let lt : i < length xs = omega arith in
     let is : c.due.result ≡ get_or xs i no_due = c.due.ensures ∙ due_is c.args.dues.now xs i h few lt in
-    added_more c.args.more xs i c.args.sums.now c.loop-i.sums c.add-due.new.sums (omega arith) lt (subst (λ d. DueAdded d c.args.more c.loop-i.sums c.add-due.new.sums) is c.add-due.ensures)
+    added_more c.args.more xs i c.args.sums.now c.loop-i.sums c.add_due.new.sums (omega arith) lt (subst (λ d. DueAdded d c.args.more c.loop-i.sums c.add_due.new.sums) is c.add_due.ensures)
     (c.loop-i.invariant xs h few)
 
 pub returns : goal.returns

@@ -8,11 +8,11 @@ use Rattle.replay.proofs.adding.flow_deal.Goals as goal
 pub returns : goal.returns
 returns c ds x coins are stands held =
     let st = c.args.start in
-    let tree = c.read-contract.new.tree in
+    let tree = c.read_contract.new.tree in
     let last : length c.args.days.now - 1 ≡ length ds - 1 = omega arith in
     subst (λ z. Held c.flow.new.out z)
-    (whole_flows st.rates st.currencies c.args.c c.args.kept.now c.args.days.now tree c.nodes-in-nodes.result ds x c.args.deal.day (length c.args.days.now - 1) coins are
-    c.nodes-in-nodes.ensures (c.read-contract.ensures x stands).1 stands.text.fits
+    (whole_flows st.rates st.currencies c.args.c c.args.kept.now c.args.days.now tree c.nodes_in-nodes.result ds x c.args.deal.day (length c.args.days.now - 1) coins are
+    c.nodes_in-nodes.ensures (c.read_contract.ensures x stands).1 stands.text.fits
     ∙ ap (λ n. dues_on n (flows ds c.args.c [] x c.args.deal.day)) last)
     (c.flow.ensures [] held)
 

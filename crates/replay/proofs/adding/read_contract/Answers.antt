@@ -9,7 +9,7 @@ returns c x stands =
     let st = c.args.start in
     let from = c.args.deal.text_at in
     let to = c.args.deal.text_end in
-    let bytes = c.bytes-of-bytes.result.now in
-    let r = read_is st.rates st.currencies from (take (to - from) (drop from bytes)) x c.read-part.new.out c.read-part.result
-    (subst (λ s. TextTaken st.rates st.currencies (field (to - from) s from) x) (sym c.bytes-of-bytes.ensures) stands.text) c.read-part.ensures in
-    (c.is-ok.ensures.value ∙ r.0, r.1)
+    let bytes = c.bytes_of-bytes.result.now in
+    let r = read_is st.rates st.currencies from (take (to - from) (drop from bytes)) x c.read_part.new.out c.read_part.result
+    (subst (λ s. TextTaken st.rates st.currencies (field (to - from) s from) x) (sym c.bytes_of-bytes.ensures) stands.text) c.read_part.ensures in
+    (c.is_ok.ensures.value ∙ r.0, r.1)

@@ -20,5 +20,5 @@ pub returns : goal.returns
 unfolding signed_at
 returns c =
     let within : c.args.k < (length c.args.bytes.now - c.args.at) / 8 = omega arith in
-    let e = c.read-i64.ensures in
-    rw (lt-ltb c.args.k ((length c.args.bytes.now - c.args.at) / 8) within) (to_z-of_z w64 c.read-i64.result (search rules) ∙ e)
+    let e = c.read_i64.ensures in
+    rw (lt-ltb c.args.k ((length c.args.bytes.now - c.args.at) / 8) within) (to_z-of_z w64 c.read_i64.result (search rules) ∙ e)

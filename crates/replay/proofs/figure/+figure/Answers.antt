@@ -29,10 +29,10 @@ pub returns-in-Plus : goal.returns-in-Plus
 unfolding figure_of
 returns-in-Plus t c = grind (arith, nat_tests, to_z-of_z, figure_step)
 
-pub returns-in-default : goal.returns-in-default
-returns-in-default t c =
+pub returns-in_default : goal.returns-in_default
+returns-in_default t c =
     let rates = rate_on c.args.kept.now c.args.days.now in
     let node = node_in c.args.nodes.now in
-    let r = c.in-default in
+    let r = c.in_default in
     let none = figure_none rates node c.args.t (figure_at rates node c.args.t (c.args.n - 1)) c.args.i c.node-node.result r.not-Fixed r.not-Rate r.not-Day r.not-Plus r.not-Minus r.not-Times r.not-Max r.not-Less in
     grind (arith, nat_tests, figure_step)

@@ -5,10 +5,10 @@ use Rattle.replay.proofs.listing.list_morning.Goals as goal
 pub loop-left-init : goal.loop-left-init
 loop-left-init c xs h le = listing_start c.args.bytes.now c.args.morning c.args.many c.args.deals.now c.args.count xs h le
 
-pub returns-in-default : goal.returns-in-default
-returns-in-default c xs h le =
+pub returns-in_default : goal.returns-in_default
+returns-in_default c xs h le =
     absurd (listing_none c.args.bytes.now c.args.morning c.loop-left.left c.loop-left.at c.args.deals.now c.args.count xs c.loop-left.deals c.loop-left.count (omega arith)
-    (c.loop-left.invariant xs h le) (λ d e. c.in-default.not-Some d (c.deal_in.ensures ∙ e)))
+    (c.loop-left.invariant xs h le) (λ d e. c.in_default.not-Some d (c.deal_in.ensures ∙ e)))
 
 pub returns-then-count-deals : goal.returns-then-count-deals
 returns-then-count-deals c xs h le =

@@ -10,8 +10,8 @@ loop-c-init c = keys_none c.args.deals.now
 pub loop-c-preserved : goal.loop-c-preserved
 loop-c-preserved c =
     let i = c.loop-c.c in
-    take_more_set c.loop-c.keys i c.key-of.result (omega arith) ∙ ap (λ z. z ++ c.key-of.result ∷ []) c.loop-c.invariant
-    ∙ ap (λ z. keys_from 0 (take i c.args.deals.now) ++ z ∷ []) c.key-of.ensures ∙ sym (keys_more c.args.deals.now i no_deal (omega arith))
+    take_more_set c.loop-c.keys i c.key_of.result (omega arith) ∙ ap (λ z. z ++ c.key_of.result ∷ []) c.loop-c.invariant
+    ∙ ap (λ z. keys_from 0 (take i c.args.deals.now) ++ z ∷ []) c.key_of.ensures ∙ sym (keys_more c.args.deals.now i no_deal (omega arith))
 
 pub returns : goal.returns
 returns c =

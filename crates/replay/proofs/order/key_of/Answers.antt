@@ -4,4 +4,4 @@ use Rattle.replay.proofs.order.key_of.Goals as goal
 
 pub returns : goal.returns
 unfolding key_of
-returns c = ap (λ p. 65536 * p + c.args.c) c.pair-of.ensures.is
+returns c = ap (λ p. 65536 * p + c.args.c) c.pair_of.ensures.is

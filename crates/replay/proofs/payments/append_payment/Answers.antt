@@ -6,4 +6,4 @@ returns-then-count-payments c was ps w h = absurd (appended_room c.args.count c.
 
 pub returns : goal.returns
 returns c was ps w h =
-    appended c.args.count c.in-Some.p c.args.payment c.in-Some.is c.args.payments.now was ps w h c.write-payment.new.out c.write-payment.ensures
+    appended c.args.count c.in-Some.p c.args.payment c.in-Some.is c.args.payments.now was ps w h c.write_payment.new.out c.write_payment.ensures

@@ -23,8 +23,8 @@ loop-k-preserved c =
           c.payment_of.ensures ∙ ap (payment_of c.args.low c.args.high k)
           (to_z-of_z w64 (get_or c.loop-k.sums k (pos 0)) (search rules) ∙ sym (int_wrap_fits w64 (get_or c.loop-k.sums k (pos 0)) (search rules))
           ∙ ap (int_wrap w64) (c.loop-k.invariant.1 k (omega arith)) ∙ amounts k (omega arith)) in
-          pair_more c.args.low c.args.high k (length c.args.sums.now) c.args.count f was ps c.loop-k.count c.append-payment-count.result c.loop-k.payments c.append-payment-count.new.payments
-          (omega arith) w.count fits (simp paid at (c.append-payment-count.ensures was (ps ++ pair_payments k c.args.low c.args.high f))) (c.loop-k.invariant.2 was ps f w amounts fits),
+          pair_more c.args.low c.args.high k (length c.args.sums.now) c.args.count f was ps c.loop-k.count c.append_payment-count.result c.loop-k.payments c.append_payment-count.new.payments
+          (omega arith) w.count fits (simp paid at (c.append_payment-count.ensures was (ps ++ pair_payments k c.args.low c.args.high f))) (c.loop-k.invariant.2 was ps f w amounts fits),
     )
 
 pub returns : goal.returns

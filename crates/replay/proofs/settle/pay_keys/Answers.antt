@@ -32,15 +32,15 @@ loop-i-preserved c due ordered zeros room =
     let room' : 13 * (length os * cs) ≤ length was = subst (λ n. 13 * (n * cs) ≤ length was) (sym many) room in
     let lt' : i < length os = omega arith in
     let sizes : (k : ℕ) → size (adds o k) ≤ 1099511627776 = λ k. adds_small o k 1099511627776 (ordered.small number k inside) in
-    let grown = c.add-deal.ensures o (ordered.owe number no_deal inside) in
+    let grown = c.add_deal.ensures o (ordered.owe number no_deal inside) in
     ⊎_elim
-    (λ e. subst (λ n. Paying cs was os (i + 1) (get_or keys i 0 / 65536) n c.add-deal.new.sums c.turn-to-count.new.payments) (sym e.1)
-    (subst (λ z. Paying cs was os (i + 1) (get_or keys i 0 / 65536) c.loop-i.count c.add-deal.new.sums z) (sym e.3)
+    (λ e. subst (λ n. Paying cs was os (i + 1) (get_or keys i 0 / 65536) n c.add_deal.new.sums c.turn_to-count.new.payments) (sym e.1)
+    (subst (λ z. Paying cs was os (i + 1) (get_or keys i 0 / 65536) c.loop-i.count c.add_deal.new.sums z) (sym e.3)
     (paying_same cs was os i q c.loop-i.count c.loop-i.sums c.loop-i.payments long few room' p o lt' (owed_is due keys i lt) (get_or keys i 0 / 65536) (ordered.pairs i lt) (ordered.between number inside) sizes
-    c.add-deal.new.sums e.0 (omega arith) (subst (λ z. GrownBy (adds o) z c.add-deal.new.sums) e.2 grown))))
+    c.add_deal.new.sums e.0 (omega arith) (subst (λ z. GrownBy (adds o) z c.add_deal.new.sums) e.2 grown))))
     (λ e. paying_other cs was os i q c.loop-i.count c.loop-i.sums c.loop-i.payments long few room' p o lt' (owed_is due keys i lt) (get_or keys i 0 / 65536) (ordered.pairs i lt) (ordered.between number inside) sizes
-    c.turn-to-count.result c.turn-to-count.new.sums c.add-deal.new.sums c.turn-to-count.new.payments e.0 (omega arith) e.1 (omega arith) grown)
-    c.turn-to-count.ensures
+    c.turn_to-count.result c.turn_to-count.new.sums c.add_deal.new.sums c.turn_to-count.new.payments e.0 (omega arith) e.1 (omega arith) grown)
+    c.turn_to-count.ensures
 
 pub returns : goal.returns
 returns c due ordered zeros room =
@@ -49,4 +49,4 @@ returns c due ordered zeros room =
     let os = owed_by due c.args.keys.now in
     let many = owed_many due c.args.keys.now in
     paying_last cs was os c.loop-i.i c.loop-i.pair c.loop-i.count c.loop-i.sums c.loop-i.payments (omega arith) (omega (arith, ordered.few))
-    (subst (λ n. 13 * (n * cs) ≤ length was) (sym many) room) (c.loop-i.invariant due ordered zeros room) c.pay-number.result c.pay-number.new.sums c.pay-number.new.payments (omega arith) c.pay-number.ensures
+    (subst (λ n. 13 * (n * cs) ≤ length was) (sym many) room) (c.loop-i.invariant due ordered zeros room) c.pay_number.result c.pay_number.new.sums c.pay_number.new.payments (omega arith) c.pay_number.ensures

@@ -5,4 +5,4 @@ pub returns-then-pair-next : goal.returns-then-pair-next
 returns-then-pair-next c = inl (c.if-pair-next.true, refl, refl, refl)
 
 pub returns : goal.returns
-returns c = inr (c.if-pair-next.false, c.pay-number.ensures)
+returns c = inr (c.if-pair-next.false, c.pay_number.ensures)

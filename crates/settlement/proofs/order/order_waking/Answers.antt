@@ -19,5 +19,5 @@ returns c =
       shuffled =
           subst (λ zs. IsPermutation (words_waking c.args.t c.args.deals.now c.args.n) zs) (sym front)
           (subst (λ zs. IsPermutation zs sorted) (ap (λ m. take m work) (sub-zero count) ∙ c.collect_waking-count.ensures.words) c.sort_unstable.ensures.permutation);
-      rising = subst (λ zs. IsNonDecreasing zs) (sym front) (IsNonDecreasingBy-from_sort (λ x. x) sorted (length (take (count - 0) work)) c.sort_unstable.ensures.len c.sort_unstable.ensures.sorted);
+      rising = subst (λ zs. IsNonDecreasing zs) (sym front) (IsNonDecreasingBy-from_sort (λ x. x) sorted c.sort_unstable.ensures.sorted);
     }
