@@ -1,10 +1,10 @@
 -- Numbers below 2^62 in size fit 64 bits, so wrapping leaves them.
-use Rattle.std.proofs.Common.{◌≡◌, ◌<◌, ℤ, pos, negsuc, ap, arith, w64, SFits, rules}
+use Rattle.std.proofs.Common.{◌≡◌, ℤ, pos, negsuc, ap, w64, SFits, rules}
 use Rattle.std.specs.Int.{int_wrap}
 use Rattle.std.proofs.lemmas.Int.{int_wrap_fits}
 use Rattle.deals.specs.Contract.{down, million}
 use Rattle.deals.specs.Promise.{size}
-use Rattle.figures.specs.Exact.{Short, Exact, ExactWhenShort}
+use Rattle.figures.specs.Exact.{Short, ExactWhenShort}
 
 short_fits : (z : ℤ) → Short z → SFits w64 z
 unfolding size

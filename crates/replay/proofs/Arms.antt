@@ -1,12 +1,11 @@
 -- What flows under a part, form by form.
-use Rattle.std.proofs.Common.{◌≡◌, ℕ, zero, suc, ◌+◌, ◌-◌, ◌<◌, ◌≤◌, Bool, true, false, not, ◌&&◌, eqb, ltb, leb, ◌≢◌, List, [], ◌∷◌, ◌++◌, map, length, ℤ, pos, Some, None, Option, sym, refl, ap, ◌∙◌, arith}
+use Rattle.std.proofs.Common.{◌≡◌, ℕ, zero, suc, ◌+◌, ◌-◌, ◌<◌, ◌≤◌, Bool, true, false, ◌≢◌, List, [], ◌∷◌, ◌++◌, map, length, ℤ, pos, Some, sym, refl, ap, ◌∙◌, arith}
 use Rattle.std.proofs.lemmas.Bool.{lt-ltb, le-ltb, le-leb, lt-leb, eq-eqb, ne_eqb}
-use Rattle.std.proofs.lemmas.Int.{ints}
-use Rattle.deals.specs.Contract.{pick, is_zero, first_day}
-use Rattle.deals.proofs.Lines.{zero_is, zero_not}
+use Rattle.deals.specs.Contract.{is_zero, first_day}
+use Rattle.deals.proofs.Lines.{zero_is}
 use Rattle.replay.specs.Parts.{node_in}
 use Rattle.texts.specs.declared.nodes.Node.{Node}
-use Rattle.texts.specs.declared.nodes.Node.TheVariants.{Nothing, Pays, Turned, Both, Choice, If, Of, On, When, By}
+use Rattle.texts.specs.declared.nodes.Node.TheVariants.{Pays, Turned, Both, Choice, If, Of, On, When, By}
 use Rattle.replay.specs.declared.days.DayAt.{DayAt}
 use Rattle.replay.specs.declared.dues.Due.{Due}
 use Rattle.replay.specs.declared.dues.Above.TheVariants.{Turn, Scale}

@@ -1,5 +1,5 @@
 -- The choices of a day, one after the other.
-use Rattle.std.proofs.Common.{◌≡◌, ℕ, zero, suc, ◌+◌, ◌-◌, ◌<◌, ◌≤◌, Bool, true, false, ◌||◌, ltb, List, [], length, Some, None, Option, sym, refl, ap, ◌∙◌, arith}
+use Rattle.std.proofs.Common.{◌≡◌, ℕ, zero, suc, ◌+◌, ◌-◌, ◌<◌, ◌≤◌, false, ◌||◌, List, length, Some, None, Option, refl, ap, arith}
 use Rattle.replay.specs.declared.choices.Way.{Way}
 use Rattle.replay.specs.declared.choices.ChoiceIn.{ChoiceIn}
 use Rattle.std.proofs.lemmas.Bool.{lt-ltb, le-ltb}

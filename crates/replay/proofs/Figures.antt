@@ -1,11 +1,9 @@
 -- The value of a figure by its nodes is its value.
-use Rattle.std.proofs.Common.{◌≡◌, ℕ, zero, suc, ◌+◌, ◌-◌, ◌<◌, ◌≤◌, min, leb, List, [], ◌∷◌, ◌++◌, length, get_or, ℤ, pos, negsuc, ◌+ℤ◌, ◌-ℤ◌, ◌*ℤ◌, neg_ℤ, sym, refl, ap, ◌∙◌, subst, arith, length-append, w64, SFits, to_z}
-use lib.Signed.{lt_z}
+use Rattle.std.proofs.Common.{◌≡◌, ℕ, suc, ◌+◌, ◌-◌, ◌<◌, ◌≤◌, min, leb, List, [], ◌∷◌, ◌++◌, length, ℤ, pos, negsuc, ◌+ℤ◌, ◌-ℤ◌, ◌*ℤ◌, neg_ℤ, ap, ◌∙◌, arith, length-append, w64, SFits}
 use borrow.Author.Differences.{fits_in}
-use Rattle.std.specs.Int.{int_wrap}
 use Rattle.std.proofs.lemmas.Nat.{mul-le}
 use Rattle.std.proofs.lemmas.Int.{ints, to_z_pos, int_wrap_fits}
-use Rattle.deals.specs.Contract.{Figure, Day, pick, million, down, flag, no_day, value, fixed, rate, day, plus, minus, times, most, less}
+use Rattle.deals.specs.Contract.{Figure, Day, pick, million, down, value, fixed, rate, day, plus, minus, times, most, less}
 use Rattle.deals.specs.Promise.{size, limit, FigureFits}
 use Rattle.deals.proofs.Sizes.{size_is, size_mul, size_add, size_sub, value_size, RatesSmall}
 use Rattle.texts.specs.Reading.{capped, capped_amount}

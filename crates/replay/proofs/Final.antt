@@ -1,21 +1,20 @@
 -- What is paid by the keys of all deals is what the meaning says.
-use Rattle.std.proofs.Common.{◌≡◌, ℕ, zero, suc, ◌+◌, ◌-◌, ◌*◌, ◌/◌, ◌%◌, ◌<◌, ◌≤◌, Bool, true, false, ◌&&◌, eqb, ltb, ◌≢◌, List, [], ◌∷◌, ◌++◌, map, length, get_or, take, set, ℤ, pos, ◌+ℤ◌, neg_ℤ, filter, sym, refl, ap, ◌∙◌, subst, ap₂, add-one, arith}
+use Rattle.std.proofs.Common.{◌≡◌, ℕ, zero, suc, ◌+◌, ◌-◌, ◌*◌, ◌/◌, ◌%◌, ◌<◌, ◌≤◌, Bool, true, false, ◌&&◌, eqb, List, [], ◌∷◌, map, length, get_or, set, ℤ, pos, ◌+ℤ◌, neg_ℤ, filter, sym, refl, ap, ◌∙◌, subst, ap₂, add-one, arith}
 use lib.IntN.{+ℤ_idl}
 use Rattle.std.specs.List.{range_with_len, swap, AllByRecursion as All}
 use Rattle.std.specs.List.Sorted.{apply_swaps, IsPermutation, IsNonDecreasingBy, IsNonDecreasing}
-use Rattle.std.proofs.ByRecursion.{All-get_or, All-from_get_or, all_shuffled}
+use Rattle.std.proofs.ByRecursion.{All-get_or, all_shuffled}
 use Rattle.std.proofs.lemmas.List.{length-map, map-set, get_or-map}
 use Rattle.std.proofs.lemmas.List.Sorted.{length_permutation}
 use Rattle.std.proofs.lemmas.Bool.Decides.{nat_tests}
-use Rattle.deals.specs.Contract.{Contract, Day, Deal, Flow, Morning, pick, flows, on_that_day, owed, net, all_days, all_deals}
-use Rattle.deals.specs.Promise.{size, moves, all_of, ContractFits}
+use Rattle.deals.specs.Contract.{Day, Deal, Flow, pick, flows, on_that_day, owed}
+use Rattle.deals.specs.Promise.{size, all_of, ContractFits}
 use Rattle.deals.specs.Residual.{come_to}
 use Rattle.deals.specs.House.{Owes, House, one_between, come_between, pays_now}
-use Rattle.deals.specs.Lines.{pair, all_lines}
+use Rattle.deals.specs.Lines.{all_lines}
 use Rattle.deals.specs.Payments.{written, payments, low_of, high_of, pair_of, paired, grouped, nobody, deals_at, Between}
-use Rattle.deals.proofs.Payments.{paired_is_paid_lem, counting_below}
+use Rattle.deals.proofs.Payments.{paired_is_paid_lem}
 use Rattle.deals.proofs.Sizes.{size_is, size_add, flows_size, RatesSmall}
-use Rattle.mornings.specs.declared.payments.Payment.{Payment}
 use Rattle.replay.specs.declared.dues.Due.{Due}
 use Rattle.replay.specs.declared.listing.DealIn.{DealIn}
 use Rattle.replay.specs.Meaning.{dues_on, due_of, as_due}

@@ -1,5 +1,5 @@
 -- The first of some days, one day after the other.
-use Rattle.std.proofs.Common.{◌≡◌, ℕ, zero, suc, ◌+◌, ◌-◌, ◌<◌, ◌≤◌, Bool, true, false, sym, refl, ap, ◌∙◌, add-one, arith}
+use Rattle.std.proofs.Common.{◌≡◌, ℕ, zero, suc, ◌+◌, ◌-◌, ◌<◌, ◌≤◌, Bool, true, false, refl, ap, ◌∙◌, add-one, arith}
 use Rattle.deals.specs.Contract.{pick, first_day}
 
 pub first_here : (f : ℕ → Bool) (u n : ℕ) → u < n → f u ≡ true → first_day f u (n - u) ≡ suc u

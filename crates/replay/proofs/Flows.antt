@@ -1,17 +1,14 @@
 -- What flows under a contract by its nodes is what flows under it.
-use Rattle.std.proofs.Common.{◌≡◌, ℕ, zero, suc, ◌+◌, ◌-◌, ◌*◌, ◌/◌, ◌<◌, ◌≤◌, Bool, true, false, not, ◌&&◌, eqb, ltb, leb, List, [], ◌∷◌, ◌++◌, map, length, ℤ, pos, ◌*ℤ◌, sym, refl, ap, ◌∙◌, subst, ⊎_elim, arith, length-append}
-use Rattle.std.specs.List.{AllByRecursion as All}
+use Rattle.std.proofs.Common.{◌≡◌, ℕ, ◌+◌, ◌-◌, ◌<◌, ◌≤◌, not, ◌&&◌, eqb, ltb, leb, List, [], ◌∷◌, ◌++◌, map, length, sym, refl, ap, ◌∙◌, arith, length-append}
 use Rattle.std.proofs.ByRecursion.{All-append}
-use Rattle.std.proofs.lemmas.Bool.{eq-eqb, ne_eqb, cases_eq}
-use Rattle.deals.specs.Contract.{Figure, Contract, nothing, pays, turned, both, choice, either, scaled, on_day, when, by_day, Day, Flow, Path, pick, million, value, is_zero, chosen, flows, first_day, from_first, turned_flows, scaled_flows}
-use Rattle.deals.specs.Promise.{size, limit, moves, parts, FigureFits, PartsFit}
+use Rattle.deals.specs.Contract.{Figure, Contract, nothing, pays, turned, both, choice, either, scaled, on_day, when, by_day, Day, Path, pick, value, is_zero, chosen, flows, first_day, scaled_flows}
+use Rattle.deals.specs.Promise.{limit, moves, FigureFits, PartsFit}
 use Rattle.deals.proofs.Sizes.{RatesSmall, value_size, flows_size}
 use Rattle.texts.specs.Reading.{capped, capped_amount}
 use Rattle.texts.specs.Nodes.{figure_nodes, nodes_of}
 use Rattle.texts.specs.declared.nodes.Node.{Node}
 use Rattle.replay.specs.declared.dues.Due.{Due}
 use Rattle.replay.specs.declared.dues.Above.TheVariants.{Turn, Scale}
-use Rattle.replay.specs.declared.choices.Way.{Way}
 use Rattle.replay.specs.declared.flow.Part.{Part}
 use Rattle.replay.specs.Parts.{behind}
 use Rattle.replay.specs.Figure.{figure_at}

@@ -1,5 +1,5 @@
 -- What a row of amounts holds after one more, or after some came out above.
-use Rattle.std.proofs.Common.{◌≡◌, ℕ, zero, suc, ◌+◌, ◌-◌, ◌<◌, ◌≤◌, min, List, [], ◌∷◌, ◌++◌, map, length, get_or, take, drop, set, sym, refl, ap, ◌∙◌, subst, append_assoc, add-one, arith, length-append, take-append-drop}
+use Rattle.std.proofs.Common.{◌≡◌, ℕ, zero, suc, ◌+◌, ◌-◌, ◌<◌, ◌≤◌, min, List, [], ◌∷◌, ◌++◌, map, length, get_or, take, drop, set, sym, refl, ap, ◌∙◌, subst, append_assoc, arith, length-append, take-append-drop}
 use lib.ListN.{length-map}
 use Rattle.std.proofs.lemmas.List.{take_more_set, set_at, get_or_at, take_at}
 use Rattle.replay.specs.declared.dues.Due.{Due}

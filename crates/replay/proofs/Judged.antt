@@ -1,13 +1,12 @@
 -- What is read from the bytes of mornings that were taken is what they say.
-use Rattle.std.proofs.Common.{◌≡◌, ℕ, zero, suc, ◌+◌, ◌-◌, ◌*◌, ◌/◌, ◌<◌, ◌≤◌, min, Bool, true, false, ◌&&◌, ◌||◌, eqb, ltb, List, [], ◌∷◌, ◌++◌, length, get_or, take, drop, ℤ, pos, Some, sym, refl, ap, ◌∙◌, subst, add-one, arith, length-append, length-drop, length-take, w64, to_z}
-use Rattle.std.specs.List.{AllByRecursion as All}
+use Rattle.std.proofs.Common.{◌≡◌, ℕ, zero, suc, ◌+◌, ◌-◌, ◌/◌, ◌<◌, ◌≤◌, min, ◌&&◌, ◌||◌, eqb, List, [], ◌∷◌, ◌++◌, length, get_or, take, drop, ℤ, pos, Some, sym, refl, ap, ◌∙◌, subst, arith, length-drop, length-take}
 use Rattle.std.proofs.lemmas.Bool.{lt-ltb}
 use Rattle.octets.specs.Octets.{word, field}
-use Rattle.deals.specs.Contract.{Deal, Choice, Day, Morning, Path, pick, no_day, chosen, chosen_in, same_path, all_days, all_deals}
+use Rattle.deals.specs.Contract.{Deal, Choice, Morning, Path, no_day, chosen, chosen_in, same_path, all_days, all_deals}
 use Rattle.texts.specs.declared.stages.Stage.TheVariants.{All as Every}
-use Rattle.mornings.specs.Verdict.{taken, refused, right, goes, Row, Verdict}
-use Rattle.mornings.specs.Judgement.{few, DealRead, RateRead, StepRead, ChoiceRead, MorningRead, Laid_out}
-use Rattle.mornings.specs.Places.{deal_at, choice_at, IsDeal, IsChoice}
+use Rattle.mornings.specs.Verdict.{taken, right, goes, Row}
+use Rattle.mornings.specs.Judgement.{DealRead, RateRead, StepRead, ChoiceRead}
+use Rattle.mornings.specs.Places.{choice_at}
 use Rattle.mornings.specs.declared.Start.{Start}
 use Rattle.mornings.proofs.Handed.{handed_out}
 use Rattle.replay.specs.declared.days.DayAt.{DayAt}
@@ -15,7 +14,7 @@ use Rattle.replay.specs.declared.choices.ChoiceIn.{ChoiceIn}
 use Rattle.replay.specs.declared.listing.DealIn.{DealIn}
 use Rattle.replay.specs.Days.{nowhere, bytes_of, signed_at, rate_on}
 use Rattle.replay.specs.Choices.{way_bits, way_of, choice_in, is_for, chosen_from, chosen_on}
-use Rattle.replay.specs.Listing.{deal_in, DealsRun, AllRun}
+use Rattle.replay.specs.Listing.{DealsRun, AllRun}
 use Rattle.replay.specs.Meaning.{Bits}
 use Rattle.replay.specs.Adding.{DealStands}
 use Rattle.replay.specs.Standing.{no_morning, MorningsStand}

@@ -1,18 +1,15 @@
 -- Of some flows those of one day, and how large they can be.
-use Rattle.std.proofs.Common.{◌≡◌, ℕ, zero, suc, ◌+◌, ◌*◌, ◌/◌, ◌<◌, ◌≤◌, Bool, true, false, ◌&&◌, eqb, ltb, List, [], ◌∷◌, ◌++◌, map, ℤ, pos, ◌+ℤ◌, ◌*ℤ◌, neg_ℤ, sym, refl, ap, ◌∙◌, ⊎_elim, arith, w64}
-use lib.IntN.{+ℤ_idl}
+use Rattle.std.proofs.Common.{◌≡◌, ℕ, zero, suc, ◌*◌, ◌<◌, ◌≤◌, Bool, true, false, ◌&&◌, eqb, ltb, List, [], ◌∷◌, ◌++◌, map, ℤ, ◌*ℤ◌, neg_ℤ, sym, refl, ap, ◌∙◌, ⊎_elim, arith, w64}
 use Rattle.std.specs.List.{AllByRecursion as All}
-use Rattle.std.specs.Int.{int_wrap}
 use Rattle.std.proofs.lemmas.Nat.{mul-le}
 use Rattle.std.proofs.lemmas.Int.{int_wrap_fits}
 use Rattle.std.proofs.lemmas.Bool.{lt-ltb, le-ltb, cases_lt, eq-eqb}
-use Rattle.deals.specs.Contract.{Flow, Contract, nothing, pays, turned, both, choice, either, scaled, on_day, when, by_day, pick, million, down, turned_flows, scaled_flows, from_first, on_that_day}
-use Rattle.deals.specs.Promise.{size, moves, parts, all_of, PartsFit}
+use Rattle.deals.specs.Contract.{Flow, Contract, nothing, pays, turned, both, choice, either, scaled, on_day, when, by_day, pick, million, down, turned_flows, scaled_flows, from_first}
+use Rattle.deals.specs.Promise.{size, moves, all_of, PartsFit}
 use Rattle.deals.proofs.Sizes.{size_neg, size_mul}
 use Rattle.replay.specs.declared.dues.Due.{Due}
-use Rattle.replay.specs.declared.dues.Above.{Above}
 use Rattle.replay.specs.declared.dues.Above.TheVariants.{Turn, Scale}
-use Rattle.replay.specs.Dues.{lift_due, lifted}
+use Rattle.replay.specs.Dues.{lift_due}
 use Rattle.replay.specs.Flow.{from_found}
 use Rattle.replay.specs.Meaning.{due_of, dues_on}
 use Rattle.replay.proofs.Figures.{short_fits}

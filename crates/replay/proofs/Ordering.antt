@@ -1,8 +1,8 @@
 -- Deals as keys, and the order of these.
-use Rattle.std.proofs.Common.{◌≡◌, ℕ, zero, suc, ◌+◌, ◌-◌, ◌*◌, ◌/◌, ◌%◌, ◌<◌, ◌≤◌, List, [], ◌∷◌, ◌++◌, map, length, get_or, take, sym, refl, ap, ◌∙◌, subst, add-one, arith}
+use Rattle.std.proofs.Common.{◌≡◌, ℕ, suc, ◌+◌, ◌<◌, ◌≤◌, List, [], ◌∷◌, ◌++◌, length, get_or, take, refl, ap, ◌∙◌, arith}
 use Rattle.std.proofs.lemmas.List.{take_more, length-take-le}
 use Rattle.replay.specs.declared.listing.DealIn.{DealIn}
-use Rattle.replay.specs.Order.{pair_in, key_of, keys_from}
+use Rattle.replay.specs.Order.{key_of, keys_from}
 
 abbrev pub no_deal : DealIn
 no_deal = record { holder = 0; other = 0; day = 0; morning = 0; text_at = 0; text_end = 0 }

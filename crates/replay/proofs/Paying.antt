@@ -1,8 +1,7 @@
 -- Deals in the order of their pairs, paid pair by pair.
-use Rattle.std.proofs.Common.{◌≡◌, ℕ, zero, suc, ◌+◌, ◌-◌, ◌*◌, ◌/◌, ◌%◌, ◌<◌, ◌≤◌, min, Bool, true, false, eqb, ltb, ◌≢◌, ◌⊎◌, List, [], ◌∷◌, ◌++◌, map, length, get_or, take, drop, replicate, ℤ, pos, ◌+ℤ◌, neg_ℤ, sym, refl, ap, ◌∙◌, subst, inl, inr, ⊎_elim, append_assoc, add-one, arith, length-append, w64}
+use Rattle.std.proofs.Common.{◌≡◌, ℕ, zero, suc, ◌+◌, ◌-◌, ◌*◌, ◌/◌, ◌%◌, ◌<◌, ◌≤◌, min, true, false, eqb, ltb, ◌≢◌, List, [], ◌∷◌, ◌++◌, map, length, get_or, take, drop, replicate, ℤ, pos, ◌+ℤ◌, neg_ℤ, sym, refl, ap, ◌∙◌, subst, append_assoc, arith, length-append, w64}
 use lib.IntN.{+ℤ_idl}
 use Rattle.std.specs.Int.{int_wrap}
-use Rattle.std.proofs.lemmas.Nat.{mul-le}
 use Rattle.std.proofs.lemmas.Int.{int_wrap-add_same, int_wrap_fits}
 use Rattle.std.proofs.lemmas.List.{drop_more, drop_all, length-map, length-take, length-replicate, get_or-take, get_or-replicate, get_or-map}
 use Rattle.std.proofs.lemmas.Bool.{eq-eqb, ne_eqb}
@@ -16,7 +15,7 @@ use Rattle.deals.specs.Payments.{written, low_of, high_of, pair_of, adds, paired
 use Rattle.deals.proofs.Sums.{pick_cases}
 use Rattle.deals.proofs.Sizes.{size_is, size_add, size_neg}
 use Rattle.mornings.specs.declared.payments.Payment.{Payment}
-use Rattle.replay.specs.Payments.{as_bytes, Written, Zeros, pair_payments, PairPaid, PairDone}
+use Rattle.replay.specs.Payments.{as_bytes, Written, Zeros, pair_payments, PairPaid}
 use Rattle.replay.specs.Adding.{GrownBy}
 use Rattle.replay.specs.Settle.{grouped_payments, owed_by}
 use Rattle.replay.proofs.Figures.{short_fits}

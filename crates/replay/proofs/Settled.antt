@@ -1,5 +1,5 @@
 -- Lent memory that stands for mornings, and what is then paid.
-use Rattle.std.proofs.Common.{◌≡◌, ℕ, zero, suc, ◌+◌, ◌-◌, ◌*◌, ◌/◌, ◌%◌, ◌<◌, ◌≤◌, min, Bool, true, ◌≢◌, List, [], ◌∷◌, ◌++◌, map, length, get_or, take, drop, pos, sym, refl, ap, ◌∙◌, subst, ⊎_elim, arith, length-append, length-take}
+use Rattle.std.proofs.Common.{◌≡◌, ℕ, suc, ◌+◌, ◌-◌, ◌/◌, ◌%◌, ◌<◌, ◌≤◌, Bool, ◌≢◌, List, [], ◌∷◌, ◌++◌, map, length, get_or, take, drop, sym, ap, ◌∙◌, subst, ⊎_elim, arith, length-append, length-take}
 use Rattle.std.specs.List.{range_with_len, AllByRecursion as All}
 use Rattle.std.specs.List.Sorted.{IsPermutation, IsNonDecreasing}
 use Rattle.std.proofs.ByRecursion.{All-append, All-get_or}
@@ -15,7 +15,7 @@ use Rattle.deals.proofs.Short.{rates_fit}
 use Rattle.texts.specs.Stages.{built_at}
 use Rattle.texts.specs.declared.stages.Stage.TheVariants.{All as Every}
 use Rattle.mornings.specs.Verdict.{taken}
-use Rattle.mornings.specs.Judgement.{MorningRead, Laid_out}
+use Rattle.mornings.specs.Judgement.{MorningRead}
 use Rattle.mornings.specs.Laws.{JudgedAll, no_more, one_more}
 use Rattle.mornings.specs.declared.Start.{Start}
 use Rattle.mornings.proofs.Fits.{taken_fits}

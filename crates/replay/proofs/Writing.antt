@@ -1,5 +1,5 @@
 -- Payments behind one another in bytes.
-use Rattle.std.proofs.Common.{◌≡◌, ℕ, zero, suc, ◌+◌, ◌-◌, ◌*◌, ◌/◌, ◌<◌, ◌≤◌, Bool, true, false, List, [], ◌∷◌, ◌++◌, map, length, get_or, take, drop, set, ℤ, pos, nat_abs, ◌<ℤ◌, Some, None, Option, sym, refl, ap, ◌∙◌, subst, ⊎_elim, add-one, arith}
+use Rattle.std.proofs.Common.{◌≡◌, ℕ, zero, suc, ◌+◌, ◌*◌, ◌/◌, ◌<◌, ◌≤◌, Bool, true, false, List, [], ◌∷◌, ◌++◌, map, length, get_or, take, drop, set, ℤ, pos, nat_abs, ◌<ℤ◌, Some, None, Option, sym, refl, ap, ◌∙◌, subst, ⊎_elim, add-one, arith}
 use lib.Signed.{lt_z}
 use Rattle.std.proofs.lemmas.Int.{ints}
 use Rattle.std.proofs.lemmas.Bool.Decides.{nat_tests}
@@ -9,12 +9,12 @@ use Rattle.std.proofs.lemmas.List.{get_or-set_same, get_or-set_other, length-app
 use Rattle.std.proofs.lemmas.Bool.{cases_eq}
 use Rattle.octets.specs.Octets.{put}
 use Rattle.deals.specs.Contract.{pick, is_zero}
-use Rattle.deals.specs.Lines.{Line, line, for_each, pair_lines}
+use Rattle.deals.specs.Lines.{line, for_each, pair_lines}
 use Rattle.deals.specs.Payments.{written}
 use Rattle.mornings.specs.declared.payments.Payment.{Payment}
 use Rattle.mornings.specs.Payments.{payment_bytes, payments_bytes}
 use Rattle.mornings.proofs.Paid.{length_payment}
-use Rattle.replay.specs.Payments.{as_bytes, payment_of, Written, listed, Zeros, pair_payments, PairDone}
+use Rattle.replay.specs.Payments.{as_bytes, payment_of, Written, listed, pair_payments}
 
 -- two writes, one right behind the other
 put_both : (s xs ys : List ℕ) (i j : ℕ) → j ≡ i + length xs → j + length ys ≤ length s → put (put s i xs) j ys ≡ put s i (xs ++ ys)

@@ -1,5 +1,5 @@
 -- What deals come to on the last day. Assumes nothing: these are definitions.
-use Rattle.std.specs.Prelude.{◌≡◌, ℕ, ◌-◌, ◌<◌, ◌≤◌, Bool, true, false, List, [], ◌∷◌, ◌++◌, map, length, ℤ, pos, ◌+ℤ◌, neg_ℤ, ◌==◌, slice_index_or}
+use Rattle.std.specs.Prelude.{◌≡◌, ℕ, ◌-◌, ◌<◌, ◌≤◌, Bool, true, List, [], map, length, ℤ, pos, ◌+ℤ◌, neg_ℤ, ◌==◌, slice_index_or}
 use Rattle.std.specs.Int.{int_wrap, w64}
 use Rattle.deals.specs.Contract.{Contract, Day, pick, flows}
 use Rattle.deals.specs.Residual.{come_to}

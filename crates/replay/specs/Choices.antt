@@ -1,5 +1,5 @@
 -- Ways as numbers, and the choices of a day as the kept bytes say them. Assumes nothing: these are definitions.
-use Rattle.std.specs.Prelude.{ℕ, zero, suc, ◌+◌, ◌-◌, ◌*◌, ◌%◌, min, Bool, true, false, ◌&&◌, ◌||◌, List, [], ◌∷◌, length, get_or, Some, None, Option, ◌==◌, nat_lt, slice_index_or}
+use Rattle.std.specs.Prelude.{ℕ, zero, suc, ◌+◌, ◌-◌, ◌*◌, ◌%◌, min, Bool, false, ◌&&◌, ◌||◌, List, [], ◌∷◌, length, get_or, Some, None, Option, ◌==◌, nat_lt, slice_index_or}
 use Rattle.octets.specs.Octets.{field}
 use Rattle.deals.specs.Contract.{Path, pick}
 use Rattle.mornings.specs.Places.{choice_at}

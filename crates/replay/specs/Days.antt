@@ -1,5 +1,5 @@
 -- What the kept bytes of the mornings taken say of each day. Assumes nothing: these are definitions.
-use Rattle.std.specs.Prelude.{ℕ, ◌+◌, ◌-◌, ◌*◌, ◌/◌, List, [], length, get_or, take, drop, ℤ, pos, nat_le, nat_lt, slice_index_or}
+use Rattle.std.specs.Prelude.{ℕ, ◌+◌, ◌-◌, ◌*◌, ◌/◌, List, length, get_or, take, drop, ℤ, pos, nat_le, nat_lt, slice_index_or}
 use Rattle.std.specs.Int.{w64}
 use Rattle.std.proofs.Common.{to_z}
 use Rattle.octets.specs.Octets.{word}

@@ -1,5 +1,5 @@
 -- Amounts that flow on a day, in a row. Assumes nothing: these are definitions.
-use Rattle.std.specs.Prelude.{◌≡◌, ℕ, ◌≤◌, min, List, [], ◌∷◌, ◌++◌, map, length, take, ℤ, pos, ◌*ℤ◌, neg_ℤ, nat_lt, slice_index_or}
+use Rattle.std.specs.Prelude.{◌≡◌, ℕ, ◌≤◌, min, List, ◌++◌, map, length, take, ℤ, pos, ◌*ℤ◌, neg_ℤ, nat_lt, slice_index_or}
 use Rattle.std.specs.Int.{int_wrap, w64}
 use Rattle.deals.specs.Contract.{pick, down, million}
 use Rattle.replay.specs.declared.dues.Due.{Due}

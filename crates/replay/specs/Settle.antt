@@ -1,19 +1,13 @@
 -- What is paid on the last of the mornings taken. Assumes nothing: these are definitions.
-use Rattle.std.specs.Prelude.{◌≡◌, ℕ, ◌+◌, ◌*◌, ◌/◌, ◌%◌, ◌<◌, ◌≤◌, Bool, true, false, ◌≢◌, ◌⊎◌, List, [], ◌∷◌, ◌++◌, map, length, get_or, ℤ, pos, Result, MatchResult, slice_index, slice_index_or}
-use Rattle.std.specs.List.{AllByRecursion as All}
-use Rattle.deals.specs.Contract.{Contract, Day, Deal, Morning, pick, net, all_days, all_deals}
+use Rattle.std.specs.Prelude.{◌≡◌, ℕ, ◌*◌, ◌/◌, ◌%◌, ◌<◌, ◌≤◌, ◌≢◌, ◌⊎◌, List, map, length, get_or, ℤ, pos, slice_index, slice_index_or}
 use Rattle.deals.specs.Promise.{size}
 use Rattle.deals.specs.Residual.{come_to}
 use Rattle.deals.specs.House.{Owes}
-use Rattle.deals.specs.Lines.{all_lines}
 use Rattle.deals.specs.Payments.{written, pair_of, paired, nobody, Between}
 use Rattle.mornings.specs.declared.Start.{Start}
 use Rattle.mornings.specs.declared.payments.Payment.{Payment}
-use Rattle.mornings.specs.Payments.{payments_bytes}
 use Rattle.replay.specs.declared.days.DayAt.{DayAt}
 use Rattle.replay.specs.declared.listing.DealIn.{DealIn}
-use Rattle.replay.specs.declared.settle.Short.{Short}
-use Rattle.replay.specs.declared.settle.Short.TheVariants.{Deals, Keys, Payments}
 use Rattle.replay.specs.Payments.{as_bytes, Written, Zeros, PairPaid}
 use Rattle.replay.specs.Adding.{OwesIt}
 

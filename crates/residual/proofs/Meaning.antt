@@ -1,10 +1,10 @@
 -- What a part does that begins, by the model of what is left.
-use Rattle.std.proofs.Common.{◌≡◌, ℕ, suc, ◌+◌, ◌-◌, ◌<◌, ◌≤◌, eqb, ltb, List, [], ◌∷◌, ◌++◌, length, get_or, ℤ, pos, ◌+ℤ◌, sym, refl, ap, ◌∙◌, subst, inl, inr, ⊎_elim, arith, w64}
+use Rattle.std.proofs.Common.{◌≡◌, ℕ, suc, ◌+◌, ◌-◌, ◌<◌, ◌≤◌, eqb, ltb, List, [], ◌∷◌, ◌++◌, length, get_or, pos, ◌+ℤ◌, sym, refl, ap, ◌∙◌, subst, inl, inr, ⊎_elim, arith, w64}
 use Rattle.std.specs.Int.{int_wrap}
 use Rattle.std.proofs.lemmas.List.{append-nil, append_assoc, length-append}
 use Rattle.std.proofs.lemmas.Int.{ints, int_wrap-add_same}
 use Rattle.std.proofs.lemmas.Bool.{lt-ltb, le-ltb, eq-eqb, ne_eqb, cases_lt, cases_eq}
-use Rattle.deals.specs.Contract.{Contract, Path, pick, nothing, pays, turned, both, on_day}
+use Rattle.deals.specs.Contract.{Contract, Path, pick}
 use Rattle.deals.specs.Residual.{turn, through, starts, Due, Today, come_to}
 use Rattle.deals.specs.Shared.{Entry, chain, Slot, Kept, kept_none, kept_waiting, kept_joined, shared_at_day, shared_begins}
 use Rattle.deals.specs.Sleep.{row_wake}

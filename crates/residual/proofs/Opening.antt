@@ -1,5 +1,5 @@
 -- A new deal: its contract stands in its part, and waits for its first day.
-use Rattle.std.proofs.Common.{◌≡◌, ℕ, ◌+◌, ◌<◌, ◌≤◌, true, List, [], ◌∷◌, ◌++◌, length, sym, refl, ap, ◌∙◌, subst, arith}
+use Rattle.std.proofs.Common.{◌≡◌, ℕ, ◌+◌, ◌<◌, ◌≤◌, true, List, [], ◌∷◌, length, sym, refl, ap, ◌∙◌, subst, arith}
 use Rattle.std.proofs.lemmas.List.{append-nil}
 use Rattle.std.proofs.lemmas.Bool.{lt-ltb}
 use Rattle.deals.specs.Contract.{Contract}
@@ -13,8 +13,8 @@ use Rattle.residual.specs.declared.cells.Row.{Row}
 use Rattle.residual.specs.Layout.{put_row}
 use Rattle.residual.specs.Laying.{laid}
 use Rattle.residual.specs.Steps.{State, with_row}
-use Rattle.residual.specs.Deal.{Stands, Table, Rows, LeftStands, Holds}
-use Rattle.residual.proofs.Laid.{Lays, Marked, laid_right, nodes_many}
+use Rattle.residual.specs.Deal.{Stands, Table, Rows, Holds}
+use Rattle.residual.proofs.Laid.{Lays, laid_right, nodes_many}
 use Rattle.residual.proofs.Standing.{row_stands}
 
 pub opened : (s : List ℕ) (ns : List Node) (from : ℕ) (x : Contract) (rs cs : ℕ) → ns ≡ nodes_of x → ContractFits rs cs x → cs ≤ 65536 → thin x ≡ true → from < 65536 → 12288 ≤ length s →

@@ -6,7 +6,7 @@ use Rattle.residual.specs.Layout.{node_at, above_at}
 use Rattle.residual.specs.declared.begin.Left.{Left}
 use Rattle.texts.specs.declared.nodes.Node.{Node}
 use Rattle.texts.specs.declared.nodes.Node.TheVariants.{Nothing}
-use Rattle.residual.specs.Laying.{Laid, by_mark, laid}
+use Rattle.residual.specs.Laying.{by_mark, laid}
 use Rattle.residual.specs.Steps.{State, with_row, by_above, seen_through, by_node, begun, no_row, row_woken, woken}
 
 pred_of : (n : ℕ) → suc n - 1 ≡ n

@@ -1,5 +1,5 @@
 -- What the rows of a deal do on a day, by the model of what is left.
-use Rattle.std.proofs.Common.{◌≡◌, ℕ, zero, suc, ◌+◌, ◌-◌, ◌<◌, ◌≤◌, List, [], ◌∷◌, ◌++◌, length, get_or, ℤ, pos, sym, refl, ap, ◌∙◌, subst, ⊎_elim, arith, w64}
+use Rattle.std.proofs.Common.{◌≡◌, ℕ, ◌+◌, ◌<◌, ◌≤◌, List, [], ◌∷◌, ◌++◌, length, get_or, ℤ, pos, sym, refl, ap, ◌∙◌, subst, ⊎_elim, arith, w64}
 use Rattle.std.specs.Int.{int_wrap}
 use Rattle.std.proofs.lemmas.Int.{ints}
 use Rattle.std.proofs.ByRecursion.{All-weaker}
@@ -7,7 +7,7 @@ use Rattle.std.proofs.lemmas.List.{length-append}
 use Rattle.std.proofs.lemmas.Bool.{lt-ltb, le-ltb, eq-eqb, ne_eqb, cases_lt, cases_eq}
 use Rattle.deals.specs.Contract.{Path}
 use Rattle.deals.specs.Residual.{Waits, starts, first_true, by_choice, Today, come_to}
-use Rattle.deals.specs.Shared.{Entry, Slot, Kept, kept_joined, kept_none, kept_waiting, shared_at_day, shared_begins, shared_wakes, shared_steps, SlotsIn}
+use Rattle.deals.specs.Shared.{Entry, Slot, kept_joined, kept_none, kept_waiting, shared_at_day, shared_begins, shared_wakes, shared_steps, SlotsIn}
 use Rattle.deals.specs.Sleep.{wake}
 use Rattle.residual.specs.declared.cells.Row.{Row}
 use Rattle.residual.specs.declared.begin.Left.{Left}
@@ -15,8 +15,7 @@ use Rattle.residual.specs.declared.deal.Summary.{Summary}
 use Rattle.residual.specs.Layout.{row_at}
 use Rattle.residual.specs.Steps.{State, with_row, begun, no_row, row_woken, woken}
 use Rattle.residual.specs.Deal.{Awaited, Rows, LeftStands, Holds, Woken}
-use Rattle.residual.proofs.Unroll.{woken_more}
-use Rattle.residual.proofs.Standing.{NodesSame, stands_same, stands_long}
+use Rattle.residual.proofs.Standing.{NodesSame, stands_same}
 use Rattle.residual.proofs.Meaning.{StepsTo, Fits, steps_none, steps_both, grows, at_day_right, begun_right}
 
 -- one row

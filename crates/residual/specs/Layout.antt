@@ -1,6 +1,6 @@
 -- Where things lie in a deal's part of the lent bytes, 16 bytes each: up to 96 rows from the front on, the 256 nodes of the contract from 1,536 on, and from 5,632 on
 -- up to 256 entries for what stands above a part. Assumes nothing: these are definitions.
-use Rattle.std.specs.Prelude.{ℕ, ◌+◌, ◌*◌, List, ℤ, ◌==◌, nat_lt}
+use Rattle.std.specs.Prelude.{ℕ, ◌+◌, ◌*◌, List, ◌==◌, nat_lt}
 use Rattle.std.specs.Int.{w64}
 use Rattle.std.proofs.Common.{to_z, of_z}
 use Rattle.octets.specs.Octets.{word, put_word}

@@ -1,5 +1,5 @@
 -- What the code does to a deal's part, step by step, as definitions: a part of the contract begins, rows wake. What that means is said in Deal. Assumes nothing.
-use Rattle.std.specs.Prelude.{ℕ, zero, suc, ◌+◌, ◌*◌, ◌&&◌, List, length, ℤ, pos, ◌+ℤ◌, neg_ℤ, ◌==◌, nat_lt, slice_index_or, slice_set}
+use Rattle.std.specs.Prelude.{ℕ, zero, suc, ◌+◌, List, length, ℤ, pos, ◌+ℤ◌, neg_ℤ, ◌==◌, nat_lt, slice_index_or, slice_set}
 use Rattle.std.specs.Int.{int_wrap, w64}
 use Rattle.deals.specs.Contract.{pick}
 use Rattle.residual.specs.declared.cells.Row.{Row}

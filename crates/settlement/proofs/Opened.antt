@@ -1,5 +1,5 @@
 -- New deals in the lent bytes, one after the other.
-use Rattle.std.proofs.Common.{◌≡◌, ℕ, zero, suc, ◌+◌, ◌-◌, ◌*◌, ◌<◌, ◌≤◌, true, ◌≢◌, List, [], ◌∷◌, ◌++◌, length, get_or, sym, refl, ap, ◌∙◌, subst, ⊎_elim, add-zero, arith}
+use Rattle.std.proofs.Common.{◌≡◌, ℕ, suc, ◌+◌, ◌-◌, ◌*◌, ◌<◌, ◌≤◌, true, List, [], ◌∷◌, ◌++◌, length, get_or, sym, refl, ap, ◌∙◌, subst, ⊎_elim, add-zero, arith}
 use native.Mathlib.Nat.{add-sub_cancel_left, sub-zero}
 use borrow.Rule.Slice.PartMut.{put_mid}
 use Rattle.std.specs.List.{AllByRecursion as All, between}
@@ -23,9 +23,8 @@ use Rattle.mornings.specs.Places.{deal_at, IsDeal}
 use Rattle.mornings.proofs.Handed.{handed_out, walked}
 use Rattle.residual.specs.declared.deal.Summary.{Summary}
 use Rattle.residual.specs.Deal.{Opens}
-use Rattle.settlement.specs.declared.directory.Entry.{Entry}
-use Rattle.settlement.specs.Directory.{entry_of, part_of, EntryPut, PartPut}
-use Rattle.settlement.specs.Keeping.{Keeps, Others}
+use Rattle.settlement.specs.Directory.{part_of, EntryPut, PartPut}
+use Rattle.settlement.specs.Keeping.{Keeps}
 use Rattle.settlement.specs.Opening.{new_deal, OpenedDeal, OpenedNext}
 use Rattle.settlement.proofs.Places.{part_lent, length_lent}
 use Rattle.settlement.proofs.Waking.{part_long}

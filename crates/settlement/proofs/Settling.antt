@@ -1,5 +1,5 @@
 -- The deals that wake, in the order of their pairs, are all that a morning needs to look at.
-use Rattle.std.proofs.Common.{◌≡◌, ℕ, zero, suc, ◌+◌, ◌*◌, ◌/◌, ◌%◌, ◌<◌, ◌≤◌, Bool, true, false, cond, ◌&&◌, eqb, ltb, leb, ◌≢◌, List, [], ◌∷◌, ◌++◌, map, length, get_or, take, ℤ, pos, negsuc, sum_by, filter, sym, refl, ap, ◌∙◌, subst, ap₂, ⊎_elim, arith, w64, SFits}
+use Rattle.std.proofs.Common.{◌≡◌, ℕ, zero, suc, ◌+◌, ◌*◌, ◌/◌, ◌%◌, ◌<◌, ◌≤◌, Bool, true, false, cond, ◌&&◌, eqb, ◌≢◌, List, [], ◌∷◌, map, length, get_or, take, ℤ, pos, negsuc, filter, sym, refl, ap, ◌∙◌, subst, ap₂, ⊎_elim, arith, w64, SFits}
 use lib.Signed.{lt_z}
 use Rattle.std.specs.List.{range_with_len, AllByRecursion as All}
 use Rattle.std.specs.List.Sorted.{IsPermutation, IsNonDecreasing}
@@ -7,16 +7,16 @@ use Rattle.std.proofs.ByRecursion.{All-get_or, All-weaker, all_kept_by, all_shuf
 use Rattle.std.proofs.lemmas.List.Sorted.{sum_by-IsPermutation}
 use Rattle.std.proofs.lemmas.List.{take_all}
 use Rattle.std.proofs.lemmas.List.Sums.{sum_by-cons}
-use Rattle.std.proofs.lemmas.Bool.{cases_Bool, cases_eq, cases_lt, eq-eqb, ne_eqb, lt-ltb, le-ltb, leb-true, leb-false}
+use Rattle.std.proofs.lemmas.Bool.{cases_Bool, cases_eq, cases_lt, eq-eqb, ne_eqb, lt-ltb, le-ltb, leb-false}
 use Rattle.deals.specs.Contract.{Morning, pick}
 use Rattle.deals.specs.Promise.{size}
 use Rattle.deals.specs.Residual.{Waits, starts, first_true, by_choice, Today}
-use Rattle.deals.specs.Shared.{Entry, Slot, shared_steps}
-use Rattle.deals.specs.House.{Held, Owes, House, seen, sees, held_step, owes_step, happens, pays_now}
+use Rattle.deals.specs.Shared.{Slot, shared_steps}
+use Rattle.deals.specs.House.{House, seen, sees, held_step, owes_step, happens}
 use Rattle.deals.specs.Kept.{Roomy}
 use Rattle.deals.specs.Lines.{Line}
 use Rattle.deals.specs.Sleep.{wake, row_wake, row_sleeps, sleeps, smaller}
-use Rattle.deals.specs.Payments.{Payment, Between, TruePayment, written, payments, low_of, high_of, pair_of, paired, grouped, nobody, gone, deals_today, owes_today, Skips, DoneInOrder, word_of, words_of, numbers_in}
+use Rattle.deals.specs.Payments.{Between, TruePayment, written, payments, low_of, high_of, pair_of, paired, grouped, nobody, gone, deals_today, owes_today, Skips, DoneInOrder, word_of, words_of, numbers_in}
 use Rattle.deals.proofs.Sleep.{sleeping}
 use Rattle.deals.proofs.Morning.{due_many, due_is, morning_by_words}
 use Rattle.deals.proofs.Payments.{payments_in_order_lem, counting_below}
@@ -27,7 +27,7 @@ use Rattle.settlement.specs.Directory.{entry_of, part_of}
 use Rattle.settlement.specs.Keeping.{Keeps, RoomyAfter}
 use Rattle.settlement.specs.Paying.{Written}
 use Rattle.settlement.specs.Order.{entry_pair, word_at, wakes_at, words_waking}
-use Rattle.settlement.specs.Walk.{pair_in, number_in, times, owing, Ready, Walked, AllWalked}
+use Rattle.settlement.specs.Walk.{number_in, times, owing, Ready, AllWalked}
 use Rattle.settlement.specs.Settled.{KeptToday, Bounded, Settled}
 use Rattle.settlement.proofs.Words.{keeps_moved}
 

@@ -1,5 +1,5 @@
 -- The morning of one deal in the lent bytes, and what it adds to what a pair comes to.
-use Rattle.std.proofs.Common.{◌≡◌, ℕ, ◌+◌, ◌-◌, ◌*◌, ◌<◌, ◌≤◌, ◌≢◌, List, length, get_or, ℤ, pos, ◌+ℤ◌, ◌-ℤ◌, neg_ℤ, sym, refl, ap, ◌∙◌, subst, arith, w64}
+use Rattle.std.proofs.Common.{◌≡◌, ℕ, ◌+◌, ◌-◌, ◌*◌, ◌<◌, ◌≤◌, List, length, get_or, ℤ, pos, ◌+ℤ◌, ◌-ℤ◌, neg_ℤ, sym, refl, ap, ◌∙◌, subst, arith, w64}
 use native.Mathlib.Nat.{add-sub_cancel_left}
 use borrow.Rule.Slice.PartMut.{put_mid}
 use Rattle.std.specs.Int.{int_wrap}
@@ -14,7 +14,7 @@ use Rattle.residual.specs.declared.deal.Summary.{Summary}
 use Rattle.residual.specs.Deal.{Holds, Wakes}
 use Rattle.settlement.specs.declared.directory.Entry.{Entry}
 use Rattle.settlement.specs.Directory.{entry_of, part_of, EntryPut, PartPut}
-use Rattle.settlement.specs.Keeping.{Keeps, RoomyAfter, Others, Woke, WokenDeal, net_of, NettedOne, Netted}
+use Rattle.settlement.specs.Keeping.{WokenDeal, Netted}
 use Rattle.settlement.proofs.Places.{part_lent, length_lent}
 
 pub part_long : (s : List ℕ) (c : ℕ) → 16384 * c + 16384 ≤ length s → length (part_of s c) ≡ 12288

@@ -1,5 +1,5 @@
 -- The walk, word by word: what is paid so far, and what the words to come still give, is what all words give.
-use Rattle.std.proofs.Common.{◌≡◌, ℕ, zero, suc, ◌+◌, ◌-◌, ◌*◌, ◌/◌, ◌%◌, ◌<◌, ◌≤◌, min, true, false, eqb, ◌≢◌, ◌⊎◌, List, [], ◌∷◌, ◌++◌, map, length, get_or, take, drop, replicate, ℤ, pos, ◌+ℤ◌, sym, refl, ap, ◌∙◌, subst, inl, inr, ⊎_elim, arith, w64, SFits}
+use Rattle.std.proofs.Common.{◌≡◌, ℕ, zero, suc, ◌+◌, ◌-◌, ◌*◌, ◌%◌, ◌<◌, ◌≤◌, min, true, ◌≢◌, List, [], ◌∷◌, ◌++◌, map, length, get_or, take, drop, replicate, ℤ, pos, ◌+ℤ◌, sym, refl, ap, ◌∙◌, subst, inl, inr, ⊎_elim, arith, w64, SFits}
 use Rattle.std.specs.List.{AllByRecursion as All}
 use Rattle.std.specs.Int.{int_wrap}
 use Rattle.std.proofs.lemmas.List.{append_assoc, append-nil, length-append, map-append, drop_more, drop_all, length-take, length-replicate, get_or-take, get_or-replicate}
@@ -7,7 +7,7 @@ use Rattle.std.proofs.lemmas.Int.{ints, int_wrap_fits, int_wrap-add_same}
 use Rattle.std.proofs.lemmas.Bool.{cases_Bool, eq-eqb, ne_eqb, cases_eq, lt-ltb, le-ltb, cases_lt}
 use Rattle.deals.specs.Contract.{pick, larger, is_zero}
 use Rattle.deals.specs.Residual.{Today}
-use Rattle.deals.specs.House.{Held, Owes, held_step, owes_step}
+use Rattle.deals.specs.House.{Held, Owes, owes_step}
 use Rattle.deals.specs.Lines.{Line, pair, for_each, line, pair_lines}
 use Rattle.deals.specs.Sleep.{smaller}
 use Rattle.deals.specs.Payments.{Payment, written, low_of, high_of, pair_of, adds, paired, grouped}

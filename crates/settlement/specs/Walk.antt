@@ -1,5 +1,5 @@
 -- The walk over the deals of a day, by words in order: the two houses of a deal, the lower first, and then its number. Assumes nothing: these are definitions.
-use Rattle.std.specs.Prelude.{◌≡◌, ℕ, ◌+◌, ◌*◌, ◌/◌, ◌%◌, ◌<◌, ◌≤◌, ◌≢◌, ◌⊎◌, List, [], ◌∷◌, ◌++◌, map, length, take, ℤ, pos, sum_by, FitsSigned, ◌==◌, slice_index}
+use Rattle.std.specs.Prelude.{◌≡◌, ℕ, ◌+◌, ◌*◌, ◌/◌, ◌%◌, ◌<◌, ◌≤◌, ◌≢◌, ◌⊎◌, List, map, length, take, ℤ, pos, sum_by, FitsSigned, ◌==◌, slice_index}
 use Rattle.std.specs.Int.{w64}
 use Rattle.std.specs.List.{AllByRecursion as All}
 use Rattle.deals.specs.Contract.{pick}

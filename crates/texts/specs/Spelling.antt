@@ -1,5 +1,5 @@
 -- How a contract is written over its nodes. Assumes nothing: these are definitions.
-use Rattle.std.specs.Prelude.{◌≡◌, ℕ, zero, suc, ◌+◌, ◌-◌, ◌*◌, ◌<◌, ◌≤◌, Bool, true, false, ◌&&◌, List, [], ◌∷◌, ◌++◌, length, drop, Some, None, codes, Option, ◌≢◌, nat_le, slice_index_or, slice_set, unsigned_abs}
+use Rattle.std.specs.Prelude.{◌≡◌, ℕ, zero, suc, ◌+◌, ◌*◌, ◌<◌, ◌≤◌, Bool, true, false, ◌&&◌, List, [], ◌∷◌, ◌++◌, length, drop, Some, None, codes, Option, ◌≢◌, nat_le, slice_index_or, slice_set, unsigned_abs}
 use Rattle.deals.specs.Contract.{pick, Contract}
 use Rattle.deals.specs.Promise.{marks, ContractFits}
 use Rattle.texts.specs.Written.{written_number, written_amount, written_rate, written}

@@ -1,4 +1,4 @@
-use Rattle.std.proofs.Common.{◌≡◌, ◌+◌, ◌-◌, ◌%◌, get_or, pos, sym, ap, ◌∙◌, ⊎_elim, arith, w64, SFits, rules}
+use Rattle.std.proofs.Common.{◌+◌, ◌-◌, ◌%◌, get_or, pos, ap, ◌∙◌, ⊎_elim, arith, w64, SFits, rules}
 use Rattle.std.proofs.lemmas.Int.{to_z-of_z}
 use Rattle.fixings.proofs.Slots.{slot_within, rate_before, rate_none}
 use Rattle.fixings.proofs.look_back.Goals as goal

@@ -1,4 +1,4 @@
-use Rattle.std.proofs.Common.{◌≡◌, ◌-◌, length, get_or, take, sym, ap, subst}
+use Rattle.std.proofs.Common.{◌≡◌, ◌-◌, length, get_or, take, ap, subst}
 use native.Mathlib.Nat.{sub-zero}
 use Rattle.deals.specs.House.{sees}
 use Rattle.deals.specs.Payments.{gone, deals_today}

@@ -1,4 +1,4 @@
-use Rattle.std.proofs.Common.{◌≡◌, get_or, pos, ◌+ℤ◌, ap, ◌∙◌, w64}
+use Rattle.std.proofs.Common.{get_or, pos, ◌+ℤ◌, ap, ◌∙◌, w64}
 use Rattle.std.specs.Int.{int_wrap}
 use Rattle.replay.proofs.Whole.{today_few, adds_is}
 use Rattle.replay.specs.Adding.{today_flows}

@@ -1,4 +1,4 @@
-use Rattle.std.proofs.Common.{◌≡◌, ◌<◌, length, get_or, sym, ap, ◌∙◌, subst, arith}
+use Rattle.std.proofs.Common.{◌≡◌, ◌<◌, length, get_or, ◌∙◌, subst, arith}
 use Rattle.replay.specs.Dues.{no_due}
 use Rattle.replay.specs.Adding.{DueAdded}
 use Rattle.replay.proofs.Adds.{added_none, added_more, added_all, due_is}

@@ -1,4 +1,4 @@
-use Rattle.std.proofs.Common.{◌≡◌, ◌-◌, [], length, sym, ap, ◌∙◌, subst, arith}
+use Rattle.std.proofs.Common.{◌≡◌, ◌-◌, [], length, ap, ◌∙◌, subst, arith}
 use Rattle.deals.specs.Contract.{flows}
 use Rattle.replay.specs.Dues.{Held}
 use Rattle.replay.specs.Meaning.{dues_on}

@@ -1,8 +1,7 @@
-use Rattle.std.proofs.Common.{◌≡◌, ◌<◌, length, get_or, set, sym, ap, ◌∙◌, subst, ⊎_elim, arith, length-set}
+use Rattle.std.proofs.Common.{◌<◌, length, get_or, set, sym, ap, ◌∙◌, ⊎_elim, arith, length-set}
 use Rattle.std.proofs.lemmas.List.{get_or-set_same, get_or-set_other}
 use Rattle.std.proofs.lemmas.Bool.{cases_eq}
 use Rattle.texts.specs.declared.nodes.Node.TheVariants.{Nothing}
-use Rattle.replay.specs.Parts.{node_in}
 use Rattle.replay.proofs.adding.nodes_in.Goals as goal
 
 pub loop-i-preserved : goal.loop-i-preserved

@@ -1,4 +1,4 @@
-use Rattle.std.proofs.Common.{◌≡◌, ◌-◌, take, drop, sym, ◌∙◌, subst}
+use Rattle.std.proofs.Common.{◌-◌, take, drop, sym, ◌∙◌, subst}
 use Rattle.octets.specs.Octets.{field}
 use Rattle.texts.specs.Bounds.{TextTaken}
 use Rattle.replay.proofs.Taking.{read_is}

@@ -1,4 +1,4 @@
-use Rattle.std.proofs.Common.{◌≡◌, ◌+◌, ◌-◌, ◌<◌, ◌≤◌, length, take, drop, Some, sym, ap, ◌∙◌, arith}
+use Rattle.std.proofs.Common.{◌≡◌, ◌+◌, ◌-◌, take, drop, Some, sym, ap, ◌∙◌, arith}
 use Rattle.mornings.specs.Places.{choice_at}
 use Rattle.replay.specs.Choices.{way_bits}
 use Rattle.replay.proofs.Chosen.{choice_cut, choice_cut_way, choice_whole}

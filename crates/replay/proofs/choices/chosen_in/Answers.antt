@@ -1,4 +1,4 @@
-use Rattle.std.proofs.Common.{◌≡◌, ◌-◌, ◌||◌, sym, ap, ◌∙◌, arith}
+use Rattle.std.proofs.Common.{◌-◌, ◌||◌, sym, ap, ◌∙◌, arith}
 use Rattle.replay.specs.Choices.{chosen_from}
 use Rattle.replay.proofs.Chosen.{chosen_step, chosen_stop, chosen_zero}
 use Rattle.replay.proofs.choices.chosen_in.Goals as goal

@@ -1,4 +1,4 @@
-use Rattle.std.proofs.Common.{◌≡◌, ◌≤◌, length, sym, ◌∙◌, arith}
+use Rattle.std.proofs.Common.{sym, ◌∙◌, arith}
 use Rattle.replay.proofs.Ways.{bits_more, bits_none, bits_end}
 use Rattle.replay.proofs.choices.way_bits.Goals as goal
 

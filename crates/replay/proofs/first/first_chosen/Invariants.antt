@@ -1,9 +1,7 @@
 use Rattle.std.proofs.Common.{◌≡◌, ◌-◌, length}
 use Rattle.deals.specs.Contract.{first_day}
-use Rattle.replay.specs.Parts.{node_in}
 use Rattle.replay.specs.Choices.{chosen_on}
-use Rattle.replay.specs.Days.{rate_on}
-use Rattle.replay.specs.First.{true_on, taken_on}
+use Rattle.replay.specs.First.{taken_on}
 use Rattle.replay.proofs.first.first_chosen.Given as goal
 
 abbrev pub invariant-loop-u : goal.invariant-loop-u

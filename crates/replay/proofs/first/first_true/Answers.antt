@@ -1,6 +1,5 @@
-use Rattle.std.proofs.Common.{◌≡◌, true, false, not, length, pos, sym, refl, ap, ◌∙◌, arith, w64, to_z, of_z, rules}
+use Rattle.std.proofs.Common.{◌≡◌, true, false, not, length, sym, ap, ◌∙◌, arith, w64, to_z, of_z, rules}
 use Rattle.std.proofs.lemmas.Int.{to_z-of_z}
-use Rattle.deals.specs.Contract.{is_zero}
 use Rattle.replay.specs.Parts.{node_in}
 use Rattle.replay.specs.Days.{rate_on}
 use Rattle.replay.specs.First.{found, true_on}

@@ -1,4 +1,4 @@
-use Rattle.std.proofs.Common.{◌≡◌, ◌-◌, ◌<◌, [], ◌∷◌, ◌++◌, map, length, sym, ap, ◌∙◌, ⊎_elim, arith, w64, to_z, of_z, rules}
+use Rattle.std.proofs.Common.{◌-◌, [], ◌∷◌, map, sym, ap, ◌∙◌, ⊎_elim, arith, w64, to_z, of_z, rules}
 use Rattle.std.proofs.lemmas.Int.{to_z-of_z}
 use Rattle.replay.specs.declared.dues.Above.TheVariants.{Turn, Scale}
 use Rattle.replay.specs.Dues.{lift_due}

@@ -1,5 +1,4 @@
-use Rattle.std.proofs.Common.{◌≡◌, ◌+◌, ◌≤◌, length, Some, sym, ap, ◌∙◌, arith}
-use Rattle.mornings.specs.Places.{deal_at}
+use Rattle.std.proofs.Common.{Some, sym, ap, ◌∙◌, arith}
 use Rattle.replay.proofs.InTurn.{deal_cut, deal_cut_text, deal_whole}
 use Rattle.replay.proofs.listing.deal_in.Goals as goal
 

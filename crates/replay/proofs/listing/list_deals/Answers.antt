@@ -1,6 +1,6 @@
-use Rattle.std.proofs.Common.{◌≡◌, length, get_or, sym, ap, ◌∙◌, subst, arith}
-use Rattle.replay.specs.Days.{nowhere, bytes_of}
-use Rattle.replay.specs.Listing.{DealsRun, Listed}
+use Rattle.std.proofs.Common.{get_or, sym, subst, arith}
+use Rattle.replay.specs.Days.{nowhere}
+use Rattle.replay.specs.Listing.{DealsRun}
 use Rattle.replay.proofs.InTurn.{none_listed, some_listed, mornings_start, morning_next, morning_runs, mornings_full, mornings_more, mornings_end}
 use Rattle.replay.proofs.listing.list_deals.Goals as goal
 

@@ -1,6 +1,6 @@
-use Rattle.std.proofs.Common.{◌≡◌, ◌+◌, ◌<◌, ◌≤◌, [], ◌∷◌, ◌++◌, length, get_or, take, sym, ap, ◌∙◌, arith}
+use Rattle.std.proofs.Common.{◌≡◌, ◌≤◌, [], ◌∷◌, ◌++◌, length, take, sym, ap, ◌∙◌, arith}
 use Rattle.std.proofs.lemmas.List.{take_more_set, take_all}
-use Rattle.replay.specs.Order.{key_of, keys_from}
+use Rattle.replay.specs.Order.{keys_from}
 use Rattle.replay.proofs.Ordering.{keys_none, keys_more, no_deal}
 use Rattle.replay.proofs.order.key_deals.Goals as goal
 

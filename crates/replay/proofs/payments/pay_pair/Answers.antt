@@ -1,7 +1,7 @@
-use Rattle.std.proofs.Common.{◌≡◌, ◌+◌, ◌<◌, ◌++◌, length, get_or, pos, sym, refl, ap, ◌∙◌, subst, arith, w64, rules}
+use Rattle.std.proofs.Common.{◌≡◌, ◌<◌, ◌++◌, length, get_or, pos, sym, refl, ap, ◌∙◌, subst, arith, w64, rules}
 use Rattle.std.specs.Int.{int_wrap}
 use Rattle.std.proofs.lemmas.Int.{to_z-of_z, int_wrap_fits}
-use Rattle.replay.specs.Payments.{payment_of, pair_payments, Written, PairDone}
+use Rattle.replay.specs.Payments.{payment_of, pair_payments, Written}
 use Rattle.replay.proofs.Writing.{no_currency, pair_more, written_none, zeros_more, behind_more}
 use Rattle.replay.proofs.payments.pay_pair.Goals as goal
 

@@ -1,4 +1,4 @@
-use Rattle.std.proofs.Common.{◌≡◌, pos, nat_abs, ◌<ℤ◌, ◌∙◌, arith}
+use Rattle.std.proofs.Common.{◌≡◌, pos, nat_abs, ◌<ℤ◌, arith}
 use Rattle.std.proofs.lemmas.Int.{ints, to_z-of_z}
 use Rattle.replay.proofs.Writing.{pays_up, pays_down, pays_none}
 use Rattle.replay.proofs.payments.payment_of.Goals as goal

@@ -1,6 +1,5 @@
-use Rattle.std.proofs.Common.{length, sym, ap, ◌∙◌, subst, arith}
+use Rattle.std.proofs.Common.{length, ap, arith}
 use Rattle.deals.specs.Promise.{ContractFits}
-use Rattle.residual.specs.Deal.{Holds}
 use Rattle.residual.proofs.Laid.{nodes_many}
 use Rattle.residual.proofs.Opening.{opened}
 use Rattle.residual.proofs.deal.open.Goals as goal

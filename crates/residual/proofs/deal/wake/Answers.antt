@@ -1,6 +1,5 @@
-use Rattle.std.proofs.Common.{◌≡◌, ◌-◌, length, get_or, take, sym, refl, ap, ◌∙◌, subst, arith}
+use Rattle.std.proofs.Common.{◌≡◌, ◌-◌, length, take, ◌∙◌, arith}
 use Rattle.std.proofs.lemmas.List.{length-take-le, get_or-take}
-use Rattle.residual.specs.Layout.{row_at}
 use Rattle.residual.specs.Steps.{no_row}
 use Rattle.residual.proofs.Waking.{deal_woken}
 use Rattle.residual.proofs.deal.wake.Goals as goal

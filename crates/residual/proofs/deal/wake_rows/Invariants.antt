@@ -1,5 +1,5 @@
 use Rattle.std.proofs.Common.{◌≡◌, ◌-◌, length}
-use Rattle.residual.specs.Steps.{State, woken}
+use Rattle.residual.specs.Steps.{woken}
 use Rattle.residual.proofs.deal.wake_rows.Given as goal
 
 abbrev pub invariant-rows : goal.invariant-rows

@@ -1,7 +1,7 @@
 use Rattle.std.proofs.Common.{sym, ap, ⊎_elim, arith}
 use Rattle.std.proofs.lemmas.Bool.Decides.{nat_tests}
 use Rattle.std.proofs.lemmas.Int.{to_z-of_z}
-use Rattle.residual.specs.Laying.{Laid, by_mark, one_laid}
+use Rattle.residual.specs.Laying.{by_mark, one_laid}
 use Rattle.residual.proofs.Unroll.{laid_zero, laid_past, laid_step}
 use Rattle.residual.proofs.lay.+lay.Goals as goal
 

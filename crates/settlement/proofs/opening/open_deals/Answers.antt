@@ -1,4 +1,4 @@
-use Rattle.std.proofs.Common.{◌≡◌, sym, ap, ◌∙◌, subst, arith}
+use Rattle.std.proofs.Common.{arith}
 use Rattle.settlement.proofs.Opened.{opening_start, opening_more, opening_end}
 use Rattle.settlement.proofs.opening.open_deals.Goals as goal
 

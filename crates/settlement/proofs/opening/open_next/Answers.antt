@@ -1,11 +1,10 @@
-use Rattle.std.proofs.Common.{◌≡◌, ◌≤◌, length, sym, ap, ◌∙◌, subst, arith}
+use Rattle.std.proofs.Common.{◌≤◌, length, sym, ap, subst, arith}
 use Rattle.std.specs.List.{between}
-use Rattle.deals.specs.Promise.{marks, ContractFits}
+use Rattle.deals.specs.Promise.{ContractFits}
 use Rattle.texts.specs.Bounds.{TextTaken}
 use Rattle.settlement.specs.Opening.{OpenedDeal, OpenedNext}
 use Rattle.texts.specs.Nodes.{nodes_of}
 use Rattle.texts.proofs.Verdicts.{one_verdict}
-use Rattle.mornings.specs.Places.{deal_at}
 use Rattle.residual.proofs.Laid.{nodes_many}
 use Rattle.settlement.proofs.Opened.{not_opened, opened_next}
 use Rattle.settlement.proofs.opening.open_next.Goals.{then-bytes-lt10-via-then-bytes-lt10, then-bytes-lt10-via-else-bytes-lt10+then-at-bytes}

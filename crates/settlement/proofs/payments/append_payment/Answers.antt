@@ -1,6 +1,3 @@
-use Rattle.std.proofs.Common.{◌++◌, sym, refl, ap, subst}
-use Rattle.std.proofs.lemmas.List.{append-nil}
-use Rattle.settlement.specs.Paying.{Written, listed}
 use Rattle.settlement.proofs.Writing.{appended, appended_room}
 use Rattle.settlement.proofs.payments.append_payment.Goals as goal
 

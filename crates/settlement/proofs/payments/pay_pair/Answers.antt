@@ -1,4 +1,4 @@
-use Rattle.std.proofs.Common.{◌≡◌, ◌+◌, ◌<◌, ◌++◌, length, get_or, pos, ◌-ℤ◌, refl, ap, ◌∙◌, subst, arith, w64, rules}
+use Rattle.std.proofs.Common.{◌≡◌, ◌<◌, ◌++◌, length, get_or, pos, ◌-ℤ◌, refl, ap, ◌∙◌, subst, arith, w64, rules}
 use Rattle.std.specs.Int.{int_wrap}
 use Rattle.std.proofs.lemmas.Int.{wrapping_sub_is}
 use Rattle.settlement.specs.Paying.{listed, line_payments, pair_payments, Written}

@@ -1,4 +1,4 @@
-use Rattle.std.proofs.Common.{[], ◌∷◌, ◌++◌, pos, codes, refl, ap, ◌∙◌, subst, rules, arith}
+use Rattle.std.proofs.Common.{[], ◌∷◌, ◌++◌, pos, codes, refl, ap, ◌∙◌, subst, rules}
 use Rattle.std.proofs.lemmas.Result.{err_from_is_err_and, MatchResult-weaker}
 use Rattle.deals.specs.Contract.{fixed, most}
 use Rattle.texts.specs.Figures.{applied, add}

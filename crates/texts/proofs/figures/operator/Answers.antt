@@ -1,5 +1,4 @@
 use Rattle.std.proofs.Common.{sym, refl, ◌∙◌, arith}
-use Rattle.texts.specs.Reading.{byte_at}
 use Rattle.texts.specs.Figures.{add, subtract, multiply, compare}
 use Rattle.texts.proofs.FigureParts.{operator_took, operator_stops}
 use Rattle.texts.proofs.figures.operator.Goals as goal

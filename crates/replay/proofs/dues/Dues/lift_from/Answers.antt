@@ -1,4 +1,4 @@
-use Rattle.std.proofs.Common.{◌≡◌, ◌+◌, ◌-◌, get_or, set, pos, sym, ap, ◌∙◌, arith, w64, SFits, rules}
+use Rattle.std.proofs.Common.{◌+◌, ◌-◌, get_or, set, sym, ap, ◌∙◌, w64, SFits, rules}
 use Rattle.std.proofs.lemmas.Int.{to_z-of_z}
 use Rattle.replay.specs.Dues.{lift_due, lifted, no_due}
 use Rattle.replay.proofs.Holding.{changed, changed_step, changed_none, lifted_from}
