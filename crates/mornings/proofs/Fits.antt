@@ -1,6 +1,6 @@
 -- What is taken is in bounds. Assumes nothing.
 use Rattle.std.proofs.Common.{◌≡◌, ℕ, zero, suc, ◌+◌, ◌<◌, ◌≤◌, List, [], ◌∷◌, length, get_or, ℤ, nat_abs, ap, ◌∙◌, subst, arith, length-append}
-use Rattle.std.specs.List.{AllByRecursion as All}
+use Rattle.std.specs.List.{AllByRecursion}
 use Rattle.deals.specs.Contract.{Deal, Choice, Morning, all_deals}
 use Rattle.deals.specs.Promise.{Fit}
 use Rattle.octets.proofs.Words.{word_below}
@@ -17,10 +17,10 @@ pub row_length : {A : Type 0} (R : ℕ → Reading A) (s : List ℕ) (n c i : �
 row_length R s zero c i xs j e = let z : xs ≡ [] = cc in ap length z
 row_length R s (suc n) c i xs j (goes {a = x} h (goes {a = ys} {j = to} r e)) = let z : xs ≡ x ∷ ys = cc in ap length z ∙ ap suc (row_length R s n (suc c) _ ys to r)
 
-row_all : {A : Type 0} (P : A → Type 0) (R : ℕ → Reading A) (s : List ℕ) → ((c i : ℕ) (a : A) (j : ℕ) → R c s i (taken a j) → P a) → (n c i : ℕ) (xs : List A) (j : ℕ) → Row n R c s i (taken xs j) → All P xs
-row_all P R s f zero c i xs j e = let z : [] ≡ xs = cc in subst (All P) z tt
+row_all : {A : Type 0} (P : A → Type 0) (R : ℕ → Reading A) (s : List ℕ) → ((c i : ℕ) (a : A) (j : ℕ) → R c s i (taken a j) → P a) → (n c i : ℕ) (xs : List A) (j : ℕ) → Row n R c s i (taken xs j) → AllByRecursion P xs
+row_all P R s f zero c i xs j e = let z : [] ≡ xs = cc in subst (AllByRecursion P) z tt
 row_all P R s f (suc n) c i xs j (goes {a = x} {j = k} h (goes {a = ys} {j = to} r e)) =
-    let z : x ∷ ys ≡ xs = cc in subst (All P) z (f c i x k h, row_all P R s f n (suc c) k ys to r)
+    let z : x ∷ ys ≡ xs = cc in subst (AllByRecursion P) z (f c i x k h, row_all P R s f n (suc c) k ys to r)
 
 start_fits : (s : List ℕ) (st : Start) (j : ℕ) → StartRead s 0 (taken st j) → StartFits st
 start_fits s st j (goes (right _ h) (goes (right _ r) (goes (right _ c) (goes _ e)))) =

@@ -1,6 +1,6 @@
 -- Mornings in bounds, deal by deal and choice by choice. Assumes nothing.
 use Rattle.std.proofs.Common.{◌≡◌, ℕ, zero, suc, ◌+◌, ◌<◌, ◌≤◌, true, ◌≢◌, List, [], ◌∷◌, length, get_or, ℤ, pos, nat_abs, sym, refl, subst, arith}
-use Rattle.std.specs.List.{AllByRecursion as All}
+use Rattle.std.specs.List.{AllByRecursion}
 use Rattle.deals.specs.Contract.{Deal, Choice, Morning}
 use Rattle.deals.specs.Promise.{size, ContractFits, Fit}
 use Rattle.deals.proofs.Sizes.{size_is}
@@ -22,37 +22,37 @@ pub record DealFits (stage : Stage) (st : Start) (day : ℕ) (d : Deal) : Type 0
 pub record ChoiceFits (c : Choice) : Type 0 where
   pub deal : c.of < 65536
   pub long : length c.at ≤ 64
-  pub steps : All (λ b. b ≤ 1) c.at
+  pub steps : AllByRecursion (λ b. b ≤ 1) c.at
 
 -- a morning in bounds, on a day and with so many deals before it
 pub record MorningFits (stage : Stage) (st : Start) (day so_far : ℕ) (m : Morning) : Type 0 where
   pub in_time : day < 65536
   pub room : so_far + length m.deals ≤ 65536
   pub new_deals : length m.deals ≤ 65535
-  pub deals : All (DealFits stage st day) m.deals
+  pub deals : AllByRecursion (DealFits stage st day) m.deals
   pub all_rates : length m.day.rates ≡ st.rates
-  pub rates : All (λ a. nat_abs a ≤ 1000000000) m.day.rates
+  pub rates : AllByRecursion (λ a. nat_abs a ≤ 1000000000) m.day.rates
   pub all_choices : length m.day.choices ≤ 65535
-  pub choices : All ChoiceFits m.day.choices
+  pub choices : AllByRecursion ChoiceFits m.day.choices
 
 -- ONE BY ONE AND AT EACH PLACE
 
-all_at : {A : Type 0} (P : A → Type 0) (xs : List A) → All P xs → (j : ℕ) (d : A) → j < length xs → get_or xs j d ≡ d → P d
+all_at : {A : Type 0} (P : A → Type 0) (xs : List A) → AllByRecursion P xs → (j : ℕ) (d : A) → j < length xs → get_or xs j d ≡ d → P d
 all_at P [] h j d lt e = let z : ⊥ = omega arith in absurd z
 all_at P (x ∷ xs) h zero d lt e = subst P e h.0
 all_at P (x ∷ xs) h (suc j) d lt e = all_at P xs h.1 j d (omega arith) e
 
-at_all : {A : Type 0} (P : A → Type 0) (xs : List A) → ((j : ℕ) (d : A) → j < length xs → get_or xs j d ≡ d → P d) → All P xs
+at_all : {A : Type 0} (P : A → Type 0) (xs : List A) → ((j : ℕ) (d : A) → j < length xs → get_or xs j d ≡ d → P d) → AllByRecursion P xs
 at_all P [] f = tt
 at_all P (x ∷ xs) f = (f 0 x (omega arith) refl, at_all P xs (λ j d lt e. f (suc j) d (omega arith) e))
 
 -- the same where the default is in bounds itself
-all_read : {A : Type 0} (P : A → Type 0) (d : A) → P d → (xs : List A) → All P xs → (k : ℕ) → P (get_or xs k d)
+all_read : {A : Type 0} (P : A → Type 0) (d : A) → P d → (xs : List A) → AllByRecursion P xs → (k : ℕ) → P (get_or xs k d)
 all_read P d p [] h k = p
 all_read P d p (x ∷ xs) h zero = h.0
 all_read P d p (x ∷ xs) h (suc k) = all_read P d p xs h.1 k
 
-read_all : {A : Type 0} (P : A → Type 0) (d : A) (xs : List A) → ((k : ℕ) → P (get_or xs k d)) → All P xs
+read_all : {A : Type 0} (P : A → Type 0) (d : A) (xs : List A) → ((k : ℕ) → P (get_or xs k d)) → AllByRecursion P xs
 read_all P d [] f = tt
 read_all P d (x ∷ xs) f = (f 0, read_all P d xs (λ k. f (suc k)))
 

@@ -1,6 +1,6 @@
 -- Payments one behind the other. Assumes nothing.
 use Rattle.std.proofs.Common.{◌≡◌, ℕ, zero, suc, ◌+◌, ◌*◌, ◌^◌, ◌<◌, Bool, true, false, ◌&&◌, eqb, ◌≢◌, List, [], ◌∷◌, ◌++◌, map, length, get_or, take, drop, ℤ, pos, ◌+ℤ◌, neg_ℤ, sym, refl, ap, ◌∙◌, subst, ap₂, append_assoc, arith, take-append-drop}
-use Rattle.std.specs.List.{AllByRecursion as All, range_with_len}
+use Rattle.std.specs.List.{AllByRecursion, range_with_len}
 use Rattle.std.proofs.lemmas.List.{length-append, length-take-le, take_at, drop_at, flat_map_more}
 use Rattle.deals.specs.Contract.{pick}
 use Rattle.deals.specs.Payments.{Payment as Paid, paid, one_paid}
@@ -72,7 +72,7 @@ payment_there p pre t i f l =
     (word_there 1 p.currency s (pre ++ (from ++ to)) _ (i + 4) c lc f.currency)
     (word_there 8 p.amount s (pre ++ (from ++ (to ++ currency))) t (i + 5) d ld f.amount)
 
-among : (ps : List Payment) (pre t : List ℕ) (i k : ℕ) (d : Payment) → All PaymentFits ps → length pre ≡ i → k < length ps → payment_at (pre ++ (payments_bytes ps ++ t)) (i + 13 * k) ≡ get_or ps k d
+among : (ps : List Payment) (pre t : List ℕ) (i k : ℕ) (d : Payment) → AllByRecursion PaymentFits ps → length pre ≡ i → k < length ps → payment_at (pre ++ (payments_bytes ps ++ t)) (i + 13 * k) ≡ get_or ps k d
 among [] pre t i k d f l lt = let z : ⊥ = omega arith in absurd z
 among (p ∷ ps) pre t i zero d f l lt =
     let e : i + 13 * 0 ≡ i = omega arith in
@@ -100,14 +100,14 @@ numbered f g (x ∷ xs) from h =
     let e : from ≡ from + 0 = omega arith in
     ap₂ ◌∷◌ (ap f e ∙ h 0 x (omega arith)) (numbered f g xs (from + 1) (λ k d lt. ap f (omega arith) ∙ h (suc k) d (omega arith)))
 
-all_above : (ps : List Payment) → All PaymentFits ps → All (λ p. 0 < p.amount) (map paid_as ps)
+all_above : (ps : List Payment) → AllByRecursion PaymentFits ps → AllByRecursion (λ p. 0 < p.amount) (map paid_as ps)
 all_above [] f = tt
 all_above (p ∷ ps) f = (f.0.above, all_above ps f.1)
 
 pub bytes_say : BytesSay
 bytes_say s ps f held =
     let same = numbered (λ k. paid_as (payment_at s (13 * k))) paid_as ps 0 (λ k d lt. let e : 13 * (0 + k) ≡ 13 * k = omega arith in ap (λ i. paid_as (payment_at s i)) e ∙ ap paid_as (read_again s ps k d f held lt)) in
-    (same, subst (All (λ p. 0 < p.amount)) (sym same) (all_above ps f))
+    (same, subst (AllByRecursion (λ p. 0 < p.amount)) (sym same) (all_above ps f))
 
 sides_if : (t : Bool) (payer payee a b : ℕ) (v : ℤ) → a ≢ b →
     pick (t && (eqb payer a && eqb payee b)) v (pick (t && (eqb payee a && eqb payer b)) (neg_ℤ v) (pos 0))

@@ -1,6 +1,6 @@
 -- Starts and mornings as they are written are taken; two are never written alike. Assumes nothing.
 use Rattle.std.proofs.Common.{◌≡◌, ℕ, ◌%◌, ◌^◌, ◌<◌, ◌≤◌, true, List, [], ◌∷◌, ◌++◌, map, length, take, ℤ, pos, negsuc, nat_abs, sym, refl, ap, ◌∙◌, subst, arith, length-append, w64, SFits, to_z, of_z}
-use Rattle.std.specs.List.{AllByRecursion as All}
+use Rattle.std.specs.List.{AllByRecursion}
 use Rattle.std.proofs.lemmas.List.{take_at, drop_at}
 use Rattle.std.proofs.lemmas.Int.{to_z-of_z}
 use Rattle.deals.specs.Contract.{Contract, Deal, Choice, Morning}
@@ -53,7 +53,7 @@ step_writes b bs small e =
 abbrev way_pieces : List ℕ → List (List ℕ)
 way_pieces way = map (λ b. b ∷ []) way
 
-way_row : (way : List ℕ) → All (λ b. b ≤ 1) way → Each (λ b bs. (b ≤ 1) × (bs ≡ b ∷ [])) way (way_pieces way)
+way_row : (way : List ℕ) → AllByRecursion (λ b. b ≤ 1) way → Each (λ b bs. (b ≤ 1) × (bs ≡ b ∷ [])) way (way_pieces way)
 way_row [] h = none
 way_row (b ∷ bs) h = more (h.0, refl) (way_row bs h.1)
 
@@ -61,7 +61,7 @@ way_joined : (way : List ℕ) → in_a_row (way_pieces way) ≡ way
 way_joined [] = refl
 way_joined (b ∷ bs) = ap (λ z. b ∷ z) (way_joined bs)
 
-way_writes : (way : List ℕ) → All (λ b. b ≤ 1) way → Writes (Row (length way) (λ _. StepRead) 0) way way
+way_writes : (way : List ℕ) → AllByRecursion (λ b. b ≤ 1) way → Writes (Row (length way) (λ _. StepRead) 0) way way
 way_writes way h =
     subst (Writes (Row (length way) (λ _. StepRead) 0) way) (way_joined way)
     (row_writes (λ _. StepRead) _ (length way) (λ k b cs lt w. step_writes b cs w.0 w.1) way (way_pieces way) 0 (omega arith) (way_row way h))
@@ -133,7 +133,7 @@ never_same = (
 deal_piece : Deal → List ℕ
 deal_piece d = deal_octets d.holder d.other d.from (written d.contract)
 
-deals_pieces : (stage : Stage) (st : Start) (day : ℕ) → StartFits st → (ds : List Deal) → All (DealFits stage st day) ds → Each DealWritten ds (map deal_piece ds)
+deals_pieces : (stage : Stage) (st : Start) (day : ℕ) → StartFits st → (ds : List Deal) → AllByRecursion (DealFits stage st day) ds → Each DealWritten ds (map deal_piece ds)
 unfolding deal_piece
 deals_pieces stage st day sf [] f = none
 deals_pieces stage st day sf (d ∷ ds) f =

@@ -1,7 +1,7 @@
 -- What is written of parts in bounds is read as them. Assumes nothing.
 use Rattle.std.proofs.Common.{◌≡◌, ℕ, suc, ◌+◌, ◌^◌, ◌<◌, ◌≤◌, List, [], ◌∷◌, ◌++◌, length, take, sym, refl, ap, ◌∙◌, subst, append_assoc, arith}
 use Rattle.std.proofs.lemmas.List.{length-append, take_at, drop_at, append-nil}
-use Rattle.std.specs.List.{AllByRecursion as All}
+use Rattle.std.specs.List.{AllByRecursion}
 use Rattle.octets.specs.Octets.{number_of, octets_of, word}
 use Rattle.octets.proofs.Words.{length_octets, number_octets}
 use Rattle.mornings.specs.Verdict.{taken, Reading, Field, Then, goes, Done, Row}
@@ -70,7 +70,7 @@ row_writes R W most each _ _ c h (more {a} {rest} {bs} {pieces} w ws) =
     (then_last (Row (length rest) R (suc c)) (λ xs. Done (a ∷ xs)) rest (a ∷ rest) (in_a_row pieces) (row_writes R W most each rest pieces (suc c) (omega arith) ws) (λ s j. refl))
 
 -- each of some parts is in bounds too
-pub row_with : {A : Type 0} (P : A → Type 0) (W : A → List ℕ → Type 0) (xs : List A) (pieces : List (List ℕ)) → All P xs → Each W xs pieces → Each (λ a cs. P a × W a cs) xs pieces
+pub row_with : {A : Type 0} (P : A → Type 0) (W : A → List ℕ → Type 0) (xs : List A) (pieces : List (List ℕ)) → AllByRecursion P xs → Each W xs pieces → Each (λ a cs. P a × W a cs) xs pieces
 row_with P W _ _ ps none = none
 row_with P W _ _ ps (more {a} {rest} {bs} {pieces} w ws) = more (ps.0, w) (row_with P W rest pieces ps.1 ws)
 

@@ -1,6 +1,6 @@
 -- Payments in bytes, 13 each. Assumes nothing: these are definitions.
 use Rattle.std.specs.Prelude.{◌≡◌, ℕ, ◌+◌, ◌*◌, ◌<◌, ◌≤◌, ◌≢◌, List, [], ◌∷◌, ◌++◌, map, length, take, drop, ℤ, pos, ◌+ℤ◌, slice_index_or}
-use Rattle.std.specs.List.{range_with_len, AllByRecursion as All, flat_map}
+use Rattle.std.specs.List.{range_with_len, AllByRecursion, flat_map}
 use Rattle.deals.specs.Payments.{Payment as Paid, paid}
 use Rattle.octets.specs.Octets.{octets_of, word, put}
 use Rattle.mornings.specs.declared.payments.Payment.{Payment}
@@ -36,7 +36,7 @@ OneMore =
 
 -- what stands among the bytes is read again
 abbrev pub ReadAgain : Type 0
-ReadAgain = (s : List ℕ) (ps : List Payment) (k : ℕ) (p : Payment) → All PaymentFits ps → Holds s ps → k < length ps → payment_at s (13 * k) ≡ slice_index_or ps k p
+ReadAgain = (s : List ℕ) (ps : List Payment) (k : ℕ) (p : Payment) → AllByRecursion PaymentFits ps → Holds s ps → k < length ps → payment_at s (13 * k) ≡ slice_index_or ps k p
 
 -- WHAT PAYMENT BYTES SAY
 
@@ -59,5 +59,5 @@ BytesTwoSided = (n : ℕ) (s : List ℕ) (k a b : ℕ) → a ≢ b → bytes_pay
 -- payments that stand in bytes are what the bytes say, each with an amount above 0
 abbrev pub BytesSay : Type 0
 BytesSay =
-    (s : List ℕ) (ps : List Payment) → All PaymentFits ps → Holds s ps →
-    (payments_in (length ps) s ≡ map paid_as ps) × All (λ p. 0 < p.amount) (payments_in (length ps) s)
+    (s : List ℕ) (ps : List Payment) → AllByRecursion PaymentFits ps → Holds s ps →
+    (payments_in (length ps) s ≡ map paid_as ps) × AllByRecursion (λ p. 0 < p.amount) (payments_in (length ps) s)

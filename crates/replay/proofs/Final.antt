@@ -1,7 +1,7 @@
 -- What is paid by the keys of all deals is what the meaning says.
 use Rattle.std.proofs.Common.{◌≡◌, ℕ, zero, suc, ◌+◌, ◌-◌, ◌*◌, ◌/◌, ◌%◌, ◌<◌, ◌≤◌, Bool, true, false, ◌&&◌, eqb, List, [], ◌∷◌, map, length, get_or, set, ℤ, pos, ◌+ℤ◌, neg_ℤ, filter, sym, refl, ap, ◌∙◌, subst, ap₂, add-one, arith}
 use lib.IntN.{+ℤ_idl}
-use Rattle.std.specs.List.{range_with_len, swap, AllByRecursion as All}
+use Rattle.std.specs.List.{range_with_len, swap, AllByRecursion}
 use Rattle.std.specs.List.Sorted.{apply_swaps, IsPermutation, IsNonDecreasingBy, IsNonDecreasing}
 use Rattle.std.proofs.ByRecursion.{All-get_or, all_shuffled}
 use Rattle.std.proofs.lemmas.List.{length-map, map-set, get_or-map}
@@ -129,24 +129,24 @@ module _ (due : List Owes) (deals : List DealIn) (many : length due ≡ length d
       ap₂ ◌∷◌ (ap (λ q. 65536 * q + a) first)
       (rw (add-one a) (keys_are (suc a) xs (λ j d lt. let next : a + suc j ≡ suc a + j = omega arith in h (suc j) d (omega arith) ∙ ap pr next)))
 
-  numbers_back : (cs : List ℕ) → All (λ c. c < 65536) cs → map (λ w. w % 65536) (map word cs) ≡ cs
+  numbers_back : (cs : List ℕ) → AllByRecursion (λ c. c < 65536) cs → map (λ w. w % 65536) (map word cs) ≡ cs
   numbers_back [] f = refl
   numbers_back (c ∷ cs) f = ap₂ ◌∷◌ (omega (arith, f.0)) (numbers_back cs f.1)
 
   abbrev Good : ℕ → Type 0
   Good w = (w % 65536 < length deals) × (pr (w % 65536) ≡ w / 65536)
 
-  words_good : (cs : List ℕ) → All (λ c. c < length deals) cs → All Good (map word cs)
+  words_good : (cs : List ℕ) → AllByRecursion (λ c. c < length deals) cs → AllByRecursion Good (map word cs)
   words_good [] f = tt
   words_good (c ∷ cs) f =
       let same : (65536 * pr c + c) % 65536 ≡ c = omega (arith, f.0) in
       let front : pr c ≡ (65536 * pr c + c) / 65536 = omega (arith, f.0) in
       ((omega (arith, same, f.0), ap pr same ∙ front), words_good cs f.1)
 
-  below_all : (P : ℕ → Type 0) → ((c : ℕ) → c < length deals → P c) → All P (range_with_len 0 (length deals))
+  below_all : (P : ℕ → Type 0) → ((c : ℕ) → c < length deals → P c) → AllByRecursion P (range_with_len 0 (length deals))
   below_all P h = from 0 (length deals) (λ c le lt. h c (omega arith))
     where
-      from : (a n : ℕ) → ((c : ℕ) → a ≤ c → c < a + n → P c) → All P (range_with_len a n)
+      from : (a n : ℕ) → ((c : ℕ) → a ≤ c → c < a + n → P c) → AllByRecursion P (range_with_len a n)
       from a zero g = tt
       from a (suc n) g = (g a (omega arith) (omega arith), from (a + 1) n (λ c le lt. g c (omega arith) (omega arith)))
 
@@ -154,7 +154,7 @@ module _ (due : List Owes) (deals : List DealIn) (many : length due ≡ length d
     words : IsPermutation (map word (range_with_len 0 (length deals))) keys
     words = subst (λ z. IsPermutation z keys) (keys_are 0 deals (λ j d lt. let zero_more : j ≡ 0 + j = omega arith in pairs j d lt ∙ ap pr zero_more)) same
 
-    pub keys_good : All Good keys
+    pub keys_good : AllByRecursion Good keys
     keys_good = all_shuffled Good (map word (range_with_len 0 (length deals))) keys words (words_good (range_with_len 0 (length deals)) (below_all (λ c. c < length deals) (λ c lt. lt)))
 
     pub keys_long : length keys ≡ length deals
@@ -186,7 +186,7 @@ map_map : {A B C : Type 0} (g : B → C) (f : A → B) (xs : List A) → map g (
 map_map g f [] = refl
 map_map g f (x ∷ xs) = ap (λ z. g (f x) ∷ z) (map_map g f xs)
 
-pub paid_is_net : (ps cs : ℕ) (f : ℕ → ℕ → ℕ → ℤ) (due : List Owes) (keys : List ℕ) → ps ≤ 1024 → cs ≤ 64 → All (Between ps) due → ((a b k : ℕ) → come_between k a b due ≡ f a b k) →
+pub paid_is_net : (ps cs : ℕ) (f : ℕ → ℕ → ℕ → ℤ) (due : List Owes) (keys : List ℕ) → ps ≤ 1024 → cs ≤ 64 → AllByRecursion (Between ps) due → ((a b k : ℕ) → come_between k a b due ≡ f a b k) →
     IsPermutation (range_with_len 0 (length due)) (map (λ w. w % 65536) keys) → IsNonDecreasingBy (λ c. pair_of (get_or due c nobody)) (map (λ w. w % 65536) keys) →
     grouped_payments cs (owed_by due keys) ≡ map (λ l. as_bytes (written l)) (all_lines ps cs f)
 unfolding grouped_payments owed_by grouped payments deals_at pays_now

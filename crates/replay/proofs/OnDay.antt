@@ -1,6 +1,6 @@
 -- Of some flows those of one day, and how large they can be.
 use Rattle.std.proofs.Common.{◌≡◌, ℕ, zero, suc, ◌*◌, ◌<◌, ◌≤◌, Bool, true, false, ◌&&◌, eqb, ltb, List, [], ◌∷◌, ◌++◌, map, ℤ, ◌*ℤ◌, neg_ℤ, sym, refl, ap, ◌∙◌, ⊎_elim, arith, w64}
-use Rattle.std.specs.List.{AllByRecursion as All}
+use Rattle.std.specs.List.{AllByRecursion}
 use Rattle.std.proofs.lemmas.Nat.{mul-le}
 use Rattle.std.proofs.lemmas.Int.{int_wrap_fits}
 use Rattle.std.proofs.lemmas.Bool.{lt-ltb, le-ltb, cases_lt, eq-eqb}
@@ -30,7 +30,7 @@ pick_map false g d e xs p = refl
 same_due : (k : ℕ) (a b : ℤ) → a ≡ b → ◌≡◌ {A = Due} (record { currency = k; amount = a }) (record { currency = k; amount = b })
 same_due k a b e = ap (λ z. record { currency = k; amount = z }) e
 
-pub dues_turned : (u : ℕ) (fs : List Flow) → All (λ f. size f.amount < 4611686018427387904) fs → dues_on u (turned_flows fs) ≡ map (lift_due Turn) (dues_on u fs)
+pub dues_turned : (u : ℕ) (fs : List Flow) → AllByRecursion (λ f. size f.amount < 4611686018427387904) fs → dues_on u (turned_flows fs) ≡ map (lift_due Turn) (dues_on u fs)
 unfolding dues_on turned_flows
 dues_turned u [] h = refl
 dues_turned u (f ∷ fs) h =
@@ -38,7 +38,7 @@ dues_turned u (f ∷ fs) h =
     ap (λ z. pick (eqb f.on u) (record { currency = f.currency; amount = neg_ℤ f.amount } ∷ z) z) (dues_turned u fs h.1)
     ∙ pick_map (eqb f.on u) (lift_due Turn) (due_of f) _ (dues_on u fs) (same_due f.currency (neg_ℤ f.amount) _ (sym (int_wrap_fits w64 (neg_ℤ f.amount) fits)))
 
-pub dues_scaled : (u : ℕ) (v : ℤ) (fs : List Flow) → All (λ f. size (f.amount *ℤ v) < 4611686018427387904) fs → dues_on u (scaled_flows v fs) ≡ map (lift_due (Scale v)) (dues_on u fs)
+pub dues_scaled : (u : ℕ) (v : ℤ) (fs : List Flow) → AllByRecursion (λ f. size (f.amount *ℤ v) < 4611686018427387904) fs → dues_on u (scaled_flows v fs) ≡ map (lift_due (Scale v)) (dues_on u fs)
 unfolding dues_on scaled_flows
 dues_scaled u v [] h = refl
 dues_scaled u v (f ∷ fs) h =
@@ -81,21 +81,21 @@ from_both u (suc v) f g h = h v
 
 -- SIZES
 
-all_weaker : {P Q : Flow → Type 0} → ((f : Flow) → P f → Q f) → (fs : List Flow) → All P fs → All Q fs
+all_weaker : {P Q : Flow → Type 0} → ((f : Flow) → P f → Q f) → (fs : List Flow) → AllByRecursion P fs → AllByRecursion Q fs
 all_weaker g [] h = tt
 all_weaker g (f ∷ fs) h = (g f h.0, all_weaker g fs h.1)
 
-each_small : (m : ℕ) (fs : List Flow) → ((k : ℕ) → all_of k fs ≤ m) → All (λ f. size f.amount ≤ m) fs
+each_small : (m : ℕ) (fs : List Flow) → ((k : ℕ) → all_of k fs ≤ m) → AllByRecursion (λ f. size f.amount ≤ m) fs
 unfolding all_of
 each_small m [] h = tt
 each_small m (f ∷ fs) h =
     let own : pick (eqb f.currency f.currency) (size f.amount) 0 ≡ size f.amount = rw (eq-eqb f.currency f.currency refl) in
     (omega (arith, h f.currency), each_small m fs (λ k. omega (arith, h k)))
 
-pub small_flows : (m : ℕ) (fs : List Flow) → m < 1099511627776 → ((k : ℕ) → all_of k fs ≤ m) → All (λ f. size f.amount < 4611686018427387904) fs
+pub small_flows : (m : ℕ) (fs : List Flow) → m < 1099511627776 → ((k : ℕ) → all_of k fs ≤ m) → AllByRecursion (λ f. size f.amount < 4611686018427387904) fs
 small_flows m fs lt h = all_weaker (λ f g. omega arith) fs (each_small m fs h)
 
-pub small_products : (m l : ℕ) (v : ℤ) (fs : List Flow) → m * l < 4611686018427387904 → size v ≤ l → ((k : ℕ) → all_of k fs ≤ m) → All (λ f. size (f.amount *ℤ v) < 4611686018427387904) fs
+pub small_products : (m l : ℕ) (v : ℤ) (fs : List Flow) → m * l < 4611686018427387904 → size v ≤ l → ((k : ℕ) → all_of k fs ≤ m) → AllByRecursion (λ f. size (f.amount *ℤ v) < 4611686018427387904) fs
 small_products m l v fs lt s h =
     all_weaker (λ f g. omega (arith, size_mul f.amount v, mul-le (size f.amount) (size v) m l g s)) fs (each_small m fs h)
 

@@ -1,6 +1,6 @@
 -- Lent memory that stands for mornings, and what is then paid.
 use Rattle.std.proofs.Common.{◌≡◌, ℕ, suc, ◌+◌, ◌-◌, ◌/◌, ◌%◌, ◌<◌, ◌≤◌, Bool, ◌≢◌, List, [], ◌∷◌, ◌++◌, map, length, get_or, take, drop, sym, ap, ◌∙◌, subst, ⊎_elim, arith, length-append, length-take}
-use Rattle.std.specs.List.{range_with_len, AllByRecursion as All}
+use Rattle.std.specs.List.{range_with_len, AllByRecursion}
 use Rattle.std.specs.List.Sorted.{IsPermutation, IsNonDecreasing}
 use Rattle.std.proofs.ByRecursion.{All-append, All-get_or}
 use Rattle.std.proofs.lemmas.List.{get_or-take, get_or-drop, get_or_past}
@@ -71,18 +71,18 @@ judged_from st (m ∷ rest) t n h =
 abbrev Apart : ℕ → Deal → Type 0
 Apart ps d = (d.holder < ps) × (d.other < ps) × (d.holder ≢ d.other)
 
-fit_apart : (built : Contract → Bool) (ps rs cs t : ℕ) (ms : List Morning) → Fit built ps rs cs t ms → All (Apart ps) (all_deals ms)
+fit_apart : (built : Contract → Bool) (ps rs cs t : ℕ) (ms : List Morning) → Fit built ps rs cs t ms → AllByRecursion (Apart ps) (all_deals ms)
 unfolding Fit all_deals
 fit_apart built ps rs cs t [] f = tt
 fit_apart built ps rs cs t (m ∷ ms) f =
     All-append (Apart ps) m.deals (all_deals ms) (each_deal (Apart ps) m.deals (λ j d l e. ((f.3 j d l e).0, (f.3 j d l e).1, (f.3 j d l e).2))) (fit_apart built ps rs cs (suc t) ms f.6)
 
-owes_between : (ps : ℕ) (ds : List Day) (c : ℕ) (dd : List Deal) → All (Apart ps) dd → All (Between ps) (owes_of ds c dd)
+owes_between : (ps : ℕ) (ds : List Day) (c : ℕ) (dd : List Deal) → AllByRecursion (Apart ps) dd → AllByRecursion (Between ps) (owes_of ds c dd)
 unfolding owes_of
 owes_between ps ds c [] h = tt
 owes_between ps ds c (d ∷ dd) h = (record { holds = h.0.0; owes = h.0.1; apart = h.0.2 }, owes_between ps ds (suc c) dd h.1)
 
-wider : (ps : ℕ) (os : List Owes) (c : ℕ) → ps ≤ 1024 → All (Between ps) os → c < length os → Between 1024 (get_or os c nobody)
+wider : (ps : ℕ) (os : List Owes) (c : ℕ) → ps ≤ 1024 → AllByRecursion (Between ps) os → c < length os → Between 1024 (get_or os c nobody)
 wider ps os c le h lt =
     let b = All-get_or (Between ps) os c nobody lt h in
     record { holds = omega (arith, b.holds); owes = omega (arith, b.owes); apart = b.apart }
@@ -130,7 +130,7 @@ module _ (st : Start) (kept : List ℕ) (days : List DayAt) (ms : List Morning) 
         choices = λ c t p lt h. chosen_stand st kept days ms stand c t p (omega (arith, length_all_days ms)) h;
       }
 
-  between : All (Between st.houses) due
+  between : AllByRecursion (Between st.houses) due
   unfolding due
   between = owes_between st.houses ds 0 dd (fit_apart (built_at Every) st.houses st.rates st.currencies 0 ms facts.0)
 

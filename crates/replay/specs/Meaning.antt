@@ -1,6 +1,6 @@
 -- When what is read from the kept bytes is what the days say, and of some flows those of one day. Assumes nothing: these are definitions.
 use Rattle.std.specs.Prelude.{◌≡◌, ℕ, ◌<◌, ◌≤◌, Bool, List, [], ◌∷◌, length, get_or, ℤ, pos, ◌==◌, slice_index_or}
-use Rattle.std.specs.List.{AllByRecursion as All}
+use Rattle.std.specs.List.{AllByRecursion}
 use Rattle.deals.specs.Contract.{Day, Flow, Path, pick, no_day, chosen}
 use Rattle.deals.specs.Residual.{Due as Deal-due}
 use Rattle.deals.specs.Short.{RatesFit}
@@ -16,7 +16,7 @@ RatesAre rs rates ds = (u k : ℕ) → u < length ds → k < rs → rates u k �
 
 -- a way of steps 0 and 1
 abbrev pub Bits : Path → Type 0
-Bits p = All (λ b. b ≤ 1) p
+Bits p = AllByRecursion (λ b. b ≤ 1) p
 
 -- choices, as they are read, are those of the days
 abbrev pub ChosenAre : (ℕ → Way → Bool) → List Day → ℕ → Type 0

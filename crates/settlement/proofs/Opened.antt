@@ -2,7 +2,7 @@
 use Rattle.std.proofs.Common.{◌≡◌, ℕ, suc, ◌+◌, ◌-◌, ◌*◌, ◌<◌, ◌≤◌, true, List, [], ◌∷◌, ◌++◌, length, get_or, sym, refl, ap, ◌∙◌, subst, ⊎_elim, add-zero, arith}
 use native.Mathlib.Nat.{add-sub_cancel_left, sub-zero}
 use borrow.Rule.Slice.PartMut.{put_mid}
-use Rattle.std.specs.List.{AllByRecursion as All, between}
+use Rattle.std.specs.List.{AllByRecursion, between}
 use Rattle.std.proofs.lemmas.List.{append-nil, append_assoc, length-append, get_or_append_left}
 use Rattle.std.proofs.lemmas.Bool.{cases_eq}
 use Rattle.octets.specs.Octets.{field, word}
@@ -88,7 +88,7 @@ getD_last : (xs : List Held) (x : Held) → get_or (xs ++ x ∷ []) (length xs) 
 getD_last [] x = refl
 getD_last (y ∷ xs) x = getD_last xs x
 
-among : (xs : List Deal) (d : Deal) (ys : List Deal) → All (λ z. z.from < 65536) (xs ++ d ∷ ys) → d.from < 65536
+among : (xs : List Deal) (d : Deal) (ys : List Deal) → AllByRecursion (λ z. z.from < 65536) (xs ++ d ∷ ys) → d.from < 65536
 among [] d ys (a, h) = a
 among (x ∷ xs) d ys (a, h) = among xs d ys h
 
@@ -124,7 +124,7 @@ opening_start st day bytes n first dd j hs s row keeps =
 
 -- one more
 pub opening_more : (st : Start) (day : ℕ) (bytes : List ℕ) (n first : ℕ) (dd : List Deal) (j : ℕ) (hs : List Held) (k at : ℕ) (s s' : List ℕ) (r : ℕ) → st.currencies ≤ 64 → k < n → length hs ≡ first →
-    16384 * (first + n) ≤ length s → All (λ d. d.from < 65536) dd → OpenedNext st bytes (first + k) at s r s' → Opening st day bytes n first dd j hs k at s → Opening st day bytes n first dd j hs (k + 1) r s'
+    16384 * (first + n) ≤ length s → AllByRecursion (λ d. d.from < 65536) dd → OpenedNext st bytes (first + k) at s r s' → Opening st day bytes n first dd j hs k at s → Opening st day bytes n first dd j hs (k + 1) r s'
 opening_more st day bytes n first dd j hs k at s s' r coins lt many-hs long early opened o =
     let here = (walked.0 Thin st day).1 (n - (k + 1)) (first + k) at j bytes o.rest (subst (λ z. Row z (DealRead Thin st day) (first + k) bytes at (verdict.taken o.rest j)) left o.ahead) in
     let d = here.0 in
@@ -162,7 +162,7 @@ opening_more st day bytes n first dd j hs k at s s' r coins lt many-hs long earl
     last_one d = ap (λ z. get_or ((hs ++ taken o.done) ++ new_deal d ∷ []) z gone) (sym front) ∙ getD_last (hs ++ taken o.done) (new_deal d)
 
     mine : (d : Deal) (rest : List Deal) → dd ≡ (o.done ++ d ∷ []) ++ rest → d.from < 65536
-    mine d rest all = among o.done d rest (subst (All (λ z. z.from < 65536)) (all ∙ append_assoc o.done (d ∷ []) rest) early)
+    mine d rest all = among o.done d rest (subst (AllByRecursion (λ z. z.from < 65536)) (all ∙ append_assoc o.done (d ∷ []) rest) early)
 
 -- all of them
 pub opening_end : (st : Start) (day : ℕ) (bytes : List ℕ) (n first : ℕ) (dd : List Deal) (j : ℕ) (hs : List Held) (k at : ℕ) (s : List ℕ) → k ≡ n → Opening st day bytes n first dd j hs k at s →

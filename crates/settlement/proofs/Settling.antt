@@ -1,7 +1,7 @@
 -- The deals that wake, in the order of their pairs, are all that a morning needs to look at.
 use Rattle.std.proofs.Common.{◌≡◌, ℕ, zero, suc, ◌+◌, ◌*◌, ◌/◌, ◌%◌, ◌<◌, ◌≤◌, Bool, true, false, cond, ◌&&◌, eqb, ◌≢◌, List, [], ◌∷◌, map, length, get_or, take, ℤ, pos, negsuc, filter, sym, refl, ap, ◌∙◌, subst, ap₂, ⊎_elim, arith, w64, SFits}
 use lib.Signed.{lt_z}
-use Rattle.std.specs.List.{range_with_len, AllByRecursion as All}
+use Rattle.std.specs.List.{range_with_len, AllByRecursion}
 use Rattle.std.specs.List.Sorted.{IsPermutation, IsNonDecreasing}
 use Rattle.std.proofs.ByRecursion.{All-get_or, All-weaker, all_kept_by, all_shuffled}
 use Rattle.std.proofs.lemmas.List.Sorted.{sum_by-IsPermutation}
@@ -112,7 +112,7 @@ short_whole : (v : ℤ) → size v < 4611686018427387904 → SFits w64 v
 short_whole (pos n) h = omega (arith, h, size_is (pos n))
 short_whole (negsuc n) h = omega (arith, h, size_is (negsuc n))
 
-lines_whole : (ls : List Line) → All (λ p. p.amount < 4611686018427387904) (map written ls) → All (λ l. SFits w64 l.total) ls
+lines_whole : (ls : List Line) → AllByRecursion (λ p. p.amount < 4611686018427387904) (map written ls) → AllByRecursion (λ l. SFits w64 l.total) ls
 lines_whole [] h = tt
 lines_whole (l ∷ ls) (a, h) = (short_whole l.total (omega (arith, a, amount_of l)), lines_whole ls h)
 
@@ -122,11 +122,11 @@ unfolding owing numbers_in owes_today
 owing_is h m [] = refl
 owing_is h m (w ∷ ws) = ap (λ z. owes_step (sees h m (number_in w)) (get_or (deals_today h m) (number_in w) gone) ∷ z) (owing_is h m ws)
 
-same_words : (s : List ℕ) (h : House) (m : Morning) (cs : List ℕ) → All (λ c. word_at s c ≡ word_of h m c) cs → map (word_at s) cs ≡ map (word_of h m) cs
+same_words : (s : List ℕ) (h : House) (m : Morning) (cs : List ℕ) → AllByRecursion (λ c. word_at s c ≡ word_of h m c) cs → map (word_at s) cs ≡ map (word_of h m) cs
 same_words s h m [] f = refl
 same_words s h m (c ∷ cs) (e, f) = ap₂ ◌∷◌ e (same_words s h m cs f)
 
-all_map : {A B : Type 0} (f : A → B) (P : B → Type 0) (xs : List A) → All (λ x. P (f x)) xs → All P (map f xs)
+all_map : {A B : Type 0} (f : A → B) (P : B → Type 0) (xs : List A) → AllByRecursion (λ x. P (f x)) xs → AllByRecursion P (map f xs)
 all_map f P [] h = tt
 all_map f P (x ∷ xs) (a, h) = (a, all_map f P xs h)
 
@@ -168,7 +168,7 @@ module _ (t n : ℕ) (s : List ℕ) (h : House) (m : Morning) (num : h.number �
       let lt : c < length (deals_today h m) = omega (arith, kept.many) in
       subst (Between h.houses) (due_is h m c lt) (All-get_or (Between h.houses) (happens h m).due c nobody (omega (arith, due_many h m)) bounds.between)
 
-  amounts_short : All (λ p. p.amount < 4611686018427387904) (payments (happens h m))
+  amounts_short : AllByRecursion (λ p. p.amount < 4611686018427387904) (payments (happens h m))
   unfolding happens
   amounts_short =
       All-weaker (TruePayment (happens h m)) (λ p. p.amount < 4611686018427387904)
@@ -177,7 +177,7 @@ module _ (t n : ℕ) (s : List ℕ) (h : House) (m : Morning) (num : h.number �
 
   -- the words of the deals that wake, in order
   module _ (cs : ℕ) (cs-is : h.currencies ≡ cs) (ws : List ℕ) (same : IsPermutation (words_waking t s n) ws) (up : IsNonDecreasing ws) where
-    by_words : DoneInOrder h m (wakes_at t s) (numbers_in ws) × All (λ w. pair_of (owes_today h m (w % 65536)) ≡ w / 65536) ws
+    by_words : DoneInOrder h m (wakes_at t s) (numbers_in ws) × AllByRecursion (λ w. pair_of (owes_today h m (w % 65536)) ≡ w / 65536) ws
     by_words =
         morning_by_words h m (wakes_at t s) ws bounds.houses bounds.currencies (omega (arith, kept.many)) bounds.between skips (subst (λ zs. IsPermutation zs ws) words_are same) up
 
@@ -190,7 +190,7 @@ module _ (t n : ℕ) (s : List ℕ) (h : House) (m : Morning) (num : h.number �
         let room = subst Roomy (by_words.0.stepped c lt) (All-get_or Roomy (happens h m).held c gone (omega (arith, by_words.0.many)) bounds.roomy) in
         record { rows = omega (arith, room.few_rows); entries = room.few_entries }
 
-    numbers_below : All (λ w. number_in w < n) ws
+    numbers_below : AllByRecursion (λ w. number_in w < n) ws
     unfolding words_waking
     numbers_below =
         all_shuffled (λ w. number_in w < n) (words_waking t s n) ws same
@@ -221,7 +221,7 @@ module _ (t n : ℕ) (s : List ℕ) (h : House) (m : Morning) (num : h.number �
           deals = λ j lt. All-get_or (λ w. number_in w < n) ws j 0 lt numbers_below;
           pairs = λ j lt. All-get_or (λ w. pair_of (owes_today h m (w % 65536)) ≡ w / 65536) ws j 0 lt by_words.1;
           once = times_most;
-          whole = lines_whole (paired cs 0 0 (λ k. pos 0) (owing (sees h m) (λ c. get_or (deals_today h m) c gone) ws)) (subst (All (λ p. p.amount < 4611686018427387904)) (sym groups) amounts_short);
+          whole = lines_whole (paired cs 0 0 (λ k. pos 0) (owing (sees h m) (λ c. get_or (deals_today h m) c gone) ws)) (subst (AllByRecursion (λ p. p.amount < 4611686018427387904)) (sym groups) amounts_short);
           fits = rw groups fits;
         }
 

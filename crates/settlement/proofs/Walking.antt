@@ -1,6 +1,6 @@
 -- The walk, word by word: what is paid so far, and what the words to come still give, is what all words give.
 use Rattle.std.proofs.Common.{◌≡◌, ℕ, zero, suc, ◌+◌, ◌-◌, ◌*◌, ◌%◌, ◌<◌, ◌≤◌, min, true, ◌≢◌, List, [], ◌∷◌, ◌++◌, map, length, get_or, take, drop, replicate, ℤ, pos, ◌+ℤ◌, sym, refl, ap, ◌∙◌, subst, inl, inr, ⊎_elim, arith, w64, SFits}
-use Rattle.std.specs.List.{AllByRecursion as All}
+use Rattle.std.specs.List.{AllByRecursion}
 use Rattle.std.specs.Int.{int_wrap}
 use Rattle.std.proofs.lemmas.List.{append_assoc, append-nil, length-append, map-append, drop_more, drop_all, length-take, length-replicate, get_or-take, get_or-replicate}
 use Rattle.std.proofs.lemmas.Int.{ints, int_wrap_fits, int_wrap-add_same}
@@ -19,11 +19,11 @@ use Rattle.settlement.proofs.Words.{walked_none, walked_more, net_one}
 use Rattle.settlement.proofs.Writing.{written_start}
 
 -- a fact of all of two lists is one of all of each
-all_left : {X : Type 0} (P : X → Type 0) (xs ys : List X) → All P (xs ++ ys) → All P xs
+all_left : {X : Type 0} (P : X → Type 0) (xs ys : List X) → AllByRecursion P (xs ++ ys) → AllByRecursion P xs
 all_left P [] ys h = tt
 all_left P (x ∷ xs) ys (a, h) = (a, all_left P xs ys h)
 
-all_right : {X : Type 0} (P : X → Type 0) (xs ys : List X) → All P (xs ++ ys) → All P ys
+all_right : {X : Type 0} (P : X → Type 0) (xs ys : List X) → AllByRecursion P (xs ++ ys) → AllByRecursion P ys
 all_right P [] ys h = h
 all_right P (x ∷ xs) ys (a, h) = all_right P xs ys h
 
@@ -35,18 +35,18 @@ zero_is : (v : ℤ) → is_zero v ≡ true → v ≡ pos 0
 unfolding is_zero
 zero_is v e = grind (arith, ints)
 
-line_whole : (a b k : ℕ) (v : ℤ) → All Whole (line a b k v) → SFits w64 v
+line_whole : (a b k : ℕ) (v : ℤ) → AllByRecursion Whole (line a b k v) → SFits w64 v
 unfolding line
 line_whole a b k v h =
     elim (cases_Bool (is_zero v)) [ inl e ↦ rw (zero_is v e) (omega arith) | inr e ↦ (rw e at h).0 ]
 
-each_whole : (f : ℕ → List Line) (i n k : ℕ) → All Whole (for_each f i n) → i ≤ k → k < i + n → All Whole (f k)
+each_whole : (f : ℕ → List Line) (i n k : ℕ) → AllByRecursion Whole (for_each f i n) → i ≤ k → k < i + n → AllByRecursion Whole (f k)
 unfolding for_each
 each_whole f i zero k h ge lt = absurd (omega arith)
 each_whole f i (suc n) k h ge lt =
-    ⊎_elim (λ e. subst (λ z. All Whole (f z)) (sym e) (all_left Whole (f i) (for_each f (suc i) n) h)) (λ ne. each_whole f (suc i) n k (all_right Whole (f i) (for_each f (suc i) n) h) (omega arith) (omega arith)) (cases_eq k i)
+    ⊎_elim (λ e. subst (λ z. AllByRecursion Whole (f z)) (sym e) (all_left Whole (f i) (for_each f (suc i) n) h)) (λ ne. each_whole f (suc i) n k (all_right Whole (f i) (for_each f (suc i) n) h) (omega arith) (omega arith)) (cases_eq k i)
 
-pair_whole : (cs a b : ℕ) (sums : ℕ → ℤ) → All Whole (pair_lines cs a b sums) → (k : ℕ) → k < cs → SFits w64 (sums k)
+pair_whole : (cs a b : ℕ) (sums : ℕ → ℤ) → AllByRecursion Whole (pair_lines cs a b sums) → (k : ℕ) → k < cs → SFits w64 (sums k)
 unfolding pair_lines
 pair_whole cs a b sums h k lt = line_whole a b k (sums k) (each_whole (λ q. line a b q (sums q)) 0 cs k h (omega arith) (omega arith))
 
@@ -58,7 +58,7 @@ pub record Walking (n cs : ℕ) (see : ℕ → Today) (hs : ℕ → Held) (s₀ 
   pub comes_to : (k : ℕ) → k < cs → int_wrap w64 (net_of gets gives k) ≡ int_wrap w64 (sums k)
   pub paid : Written was done at.count payments
   pub total : grouped cs (owing see hs ws) ≡ done ++ map written (paired cs at.low at.high sums (owing see hs (drop i ws)))
-  pub whole : All Whole (paired cs at.low at.high sums (owing see hs (drop i ws)))
+  pub whole : AllByRecursion Whole (paired cs at.low at.high sums (owing see hs (drop i ws)))
 
 module _ (t n cs : ℕ) (see : ℕ → Today) (hs : ℕ → Held) (s₀ ws was : List ℕ) (ready : Ready t n cs see hs s₀ ws (length was)) where
   pub walking_start : (gets gives : List ℤ) → length gets ≡ cs → length gives ≡ cs → ((k : ℕ) → k < length gets → get_or gets k (pos 0) ≡ pos 0) → ((k : ℕ) → k < length gives → get_or gives k (pos 0) ≡ pos 0) →
@@ -82,7 +82,7 @@ module _ (t n cs : ℕ) (see : ℕ → Today) (hs : ℕ → Held) (s₀ ws was :
     exact k lt =
         w.comes_to k (omega arith)
         ∙ int_wrap_fits w64 (w.sums k)
-        (pair_whole cs at.low at.high w.sums (all_left Whole (pair_lines cs at.low at.high w.sums) rest (subst (All Whole) is w.whole)) k (omega arith))
+        (pair_whole cs at.low at.high w.sums (all_left Whole (pair_lines cs at.low at.high w.sums) rest (subst (AllByRecursion Whole) is w.whole)) k (omega arith))
 
     split : grouped cs (owing see hs ws) ≡ (w.done ++ pair_payments cs at.low at.high w.sums) ++ map written rest
     unfolding pair_payments
@@ -184,7 +184,7 @@ module _ (t n cs : ℕ) (see : ℕ → Today) (hs : ℕ → Held) (s₀ ws was :
               ∙ int_wrap-add_same w64 (net_of gets gives k) (w.sums k) (adds owes k) (w.comes_to k in-cs);
           paid = w.paid;
           total = w.total ∙ ap (λ z. w.done ++ map written z) goes;
-          whole = subst (All Whole) goes w.whole;
+          whole = subst (AllByRecursion Whole) goes w.whole;
         })
 
     -- of another
@@ -207,7 +207,7 @@ module _ (t n cs : ℕ) (see : ℕ → Today) (hs : ℕ → Held) (s₀ ws was :
           comes_to = λ k in-cs. step k in-cs ∙ ap (int_wrap w64) (omega (arith, ints, p.no_gets k (omega arith), p.no_gives k (omega arith)));
           paid = p.paid_more;
           total = p.total_is ∙ ap (λ z. (w.done ++ pair_payments cs at.low at.high w.sums) ++ map written z) as_at;
-          whole = subst (All Whole) as_at (all_right Whole (pair_lines cs at.low at.high w.sums) more (subst (All Whole) goes w.whole));
+          whole = subst (AllByRecursion Whole) as_at (all_right Whole (pair_lines cs at.low at.high w.sums) more (subst (AllByRecursion Whole) goes w.whole));
         }
 
     pub walking_more : Walking n cs see hs s₀ ws was (i + 1) s'' at' gets'' gives'' payments'

@@ -1,6 +1,6 @@
 -- New deals come into the lent bytes. Assumes nothing: these are definitions.
 use Rattle.std.specs.Prelude.{◌≡◌, ℕ, ◌+◌, ◌<◌, ◌≤◌, true, List, [], ◌∷◌, ◌++◌, length, slice_index_or}
-use Rattle.std.specs.List.{AllByRecursion as All}
+use Rattle.std.specs.List.{AllByRecursion}
 use Rattle.deals.specs.Contract.{Contract, Deal}
 use Rattle.deals.specs.Promise.{thin, ContractFits}
 use Rattle.deals.specs.Residual.{starts}
@@ -32,5 +32,5 @@ pub record OpenedNext (st : Start) (bytes : List ℕ) (c at : ℕ) (s : List ℕ
 -- all deals of a morning were written behind those that there were
 abbrev pub OpensAll : Start → List ℕ → ℕ → ℕ → List ℕ → List ℕ → Type 0
 OpensAll st bytes n first s s' =
-    (day : ℕ) (dd : List Deal) (j : ℕ) (hs : List Held) → st.currencies ≤ 64 → Row n (DealRead Thin st day) first bytes 2 (verdict.taken dd j) → All (λ d. d.from < 65536) dd → length hs ≡ first →
+    (day : ℕ) (dd : List Deal) (j : ℕ) (hs : List Held) → st.currencies ≤ 64 → Row n (DealRead Thin st day) first bytes 2 (verdict.taken dd j) → AllByRecursion (λ d. d.from < 65536) dd → length hs ≡ first →
     ((c : ℕ) → c < first → Keeps s c (slice_index_or hs c gone)) → (c : ℕ) → c < first + n → Keeps s' c (slice_index_or (hs ++ taken dd) c gone)

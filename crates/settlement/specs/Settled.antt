@@ -1,6 +1,6 @@
 -- What a morning does to the deals that the lent bytes keep, and what it pays, by the model of the house. Assumes nothing: these are definitions.
 use Rattle.std.specs.Prelude.{◌≡◌, ℕ, ◌*◌, ◌<◌, ◌≤◌, List, length, slice_index_or}
-use Rattle.std.specs.List.{AllByRecursion as All}
+use Rattle.std.specs.List.{AllByRecursion}
 use Rattle.deals.specs.Contract.{Morning}
 use Rattle.deals.specs.Promise.{size}
 use Rattle.deals.specs.House.{House, happens, pays_now}
@@ -19,8 +19,8 @@ pub record KeptToday (s : List ℕ) (n : ℕ) (h : House) (m : Morning) : Type 0
 pub record Bounded (h : House) (m : Morning) : Type 0 where
   pub houses : h.houses ≤ 1024
   pub currencies : h.currencies ≤ 64
-  pub between : All (Between h.houses) (happens h m).due
-  pub roomy : All Roomy (happens h m).held
+  pub between : AllByRecursion (Between h.houses) (happens h m).due
+  pub roomy : AllByRecursion Roomy (happens h m).held
   pub short : (k a b : ℕ) → size (pays_now (happens h m) k a b) < 4611686018427387904
 
 -- what is then kept and paid

@@ -1,7 +1,7 @@
 -- The walk over the deals of a day, by words in order: the two houses of a deal, the lower first, and then its number. Assumes nothing: these are definitions.
 use Rattle.std.specs.Prelude.{◌≡◌, ℕ, ◌+◌, ◌*◌, ◌/◌, ◌%◌, ◌<◌, ◌≤◌, ◌≢◌, ◌⊎◌, List, map, length, take, ℤ, pos, sum_by, FitsSigned, ◌==◌, slice_index}
 use Rattle.std.specs.Int.{w64}
-use Rattle.std.specs.List.{AllByRecursion as All}
+use Rattle.std.specs.List.{AllByRecursion}
 use Rattle.deals.specs.Contract.{pick}
 use Rattle.deals.specs.Residual.{Today}
 use Rattle.deals.specs.House.{Held, Owes, held_step, owes_step}
@@ -37,7 +37,7 @@ pub record Ready (t n cs : ℕ) (see : ℕ → Today) (hs : ℕ → Held) (s ws 
   pub deals : (j : ℕ) → j < length ws → number_in (slice_index ws j) < n
   pub pairs : (j : ℕ) → j < length ws → pair_of (owes_step (see (number_in (slice_index ws j))) (hs (number_in (slice_index ws j)))) ≡ pair_in (slice_index ws j)
   pub once : (c : ℕ) → times c ws ≤ 1
-  pub whole : All (λ l. FitsSigned w64 l.total) (paired cs 0 0 (λ k. pos 0) (owing see hs ws))
+  pub whole : AllByRecursion (λ l. FitsSigned w64 l.total) (paired cs 0 0 (λ k. pos 0) (owing see hs ws))
   pub fits : 13 * length (grouped cs (owing see hs ws)) ≤ room
 
 -- the deals of the first words have had their morning, the others are as they were
