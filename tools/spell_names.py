@@ -21,6 +21,15 @@ OTHER = {
     'Rate-end-numerals': 'RateEndingNumerals',
     'Within-limits': 'IsWithinLimits',
 }
+# types that the kit's script took for words, and a type under another name
+TYPES = {'Goes_on': 'GoesOn', 'Laid_out': 'LaidOut', 'Deal-due': 'DealDue'}
+# lemmas of the name of the function whose contract they are, that the kit's script has spelt, and the files that speak of them
+LATE = {
+    'all_short': ['Short', 'Kept', 'all_short/Answers'],
+    'nothing_left': ['Left', 'nothing_left/Answers'],
+    'sums_kept': ['Books', 'sums_kept/Answers'],
+    'skipped': ['Sleep', 'Morning', 'skipped/Answers'],
+}
 # lemmas of the name of the function whose contract they are
 LEMMAS = """chosen-is-there counted-in-order day-by-day examples-hold few-entries few-rows finished-anything left-is-all morning-in-order
 not-before paid-within paired-is-paid past-stays payments-in-order place-tells rows-placed shared-day shared-deal sums-short turned-twice
@@ -67,6 +76,10 @@ def is_field(name, path, text, at):
     return text[at - 1] == '.' or '/specs/' in path or not path.startswith('crates/deals/proofs/') or re.search(r'\b%s = ' % name, line) is not None
 
 
+def commented(text, at):
+    return '--' in text[text.rfind('\n', 0, at) + 1:at]
+
+
 def turned(m, names, path, text):
     word = m.group(0)
     if word in ('few-rows', 'few-entries', 'two-sided') and is_field(word, path, text, m.start()):
@@ -77,7 +90,7 @@ def turned(m, names, path, text):
 
 
 def main():
-    names = {n: spelled(n) for n in declared()}
+    names = {n: spelled(n) for n in declared()} | TYPES
     back = collections.defaultdict(list)
     for old, new in names.items():
         back[new].append(old)
@@ -92,6 +105,9 @@ def main():
             if w in names and names[w] in words:
                 print('meet:', path, w, names[w])
         new = WORD.sub(lambda m: turned(m, names, path, text), text)
+        for name, places in LATE.items():
+            if path in ['crates/deals/proofs/%s.antt' % p for p in places]:
+                new = re.sub(r"(?<![\w.'-])%s(?![\w'-])(?! =)" % name, lambda m: m.group(0) if commented(new, m.start()) else name + '_lem', new)
         if new != text and not DRY:
             open(path, 'w', encoding='utf-8').write(new)
 

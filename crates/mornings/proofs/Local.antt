@@ -3,7 +3,7 @@ use Rattle.std.proofs.Common.{◌≡◌, ℕ, zero, suc, ◌+◌, ◌<◌, ◌�
 use Rattle.std.proofs.lemmas.List.{take-take, drop-take}
 use Rattle.std.proofs.lemmas.Bool.{cases_lt}
 use Rattle.octets.specs.Octets.{number_of, word, field}
-use Rattle.texts.specs.Text.{Goes_on, RefusedAt}
+use Rattle.texts.specs.Text.{GoesOn, RefusedAt}
 use Rattle.texts.specs.Bounds.{TextTaken, no_contract}
 use Rattle.texts.specs.Stages.{built_at}
 use Rattle.texts.specs.declared.stages.Stage.{Stage}
@@ -120,9 +120,9 @@ module _ (Q : Fault → List ℕ → Type 0) (no_cut : (s : List ℕ) → Q (fau
 refused_too : (w u : List ℕ) (p : ℕ) → p < length w → p < length u → take (suc p) w ≡ take (suc p) u → RefusedAt w p → RefusedAt u p
 refused_too w u p lw lu e r = record {
   within = omega arith;
-  so_far = subst Goes_on (agree_less p (suc p) w u (omega arith) e) r.so_far;
-  no_more = λ _ g. r.no_more lw (subst Goes_on (sym e) g);
-  none = λ x t. r.no_more lw (subst Goes_on (sym e) (text_goes_on x u (suc p) t));
+  so_far = subst GoesOn (agree_less p (suc p) w u (omega arith) e) r.so_far;
+  no_more = λ _ g. r.no_more lw (subst GoesOn (sym e) g);
+  none = λ x t. r.no_more lw (subst GoesOn (sym e) (text_goes_on x u (suc p) t));
 }
 
 -- the bytes of a text up to the one in fault

@@ -4,7 +4,7 @@ use Rattle.std.proofs.lemmas.List.{append-nil, take_all, take_rest}
 use Rattle.deals.specs.Contract.{Contract}
 use Rattle.deals.specs.Promise.{marks, ContractFits}
 use Rattle.octets.specs.Octets.{field}
-use Rattle.texts.specs.Text.{Text, Goes_on, RefusedAt}
+use Rattle.texts.specs.Text.{Text, GoesOn, RefusedAt}
 use Rattle.texts.specs.Bounds.{TextTaken, TextRefused, too_long, no_contract, past_limits, out_of_range, PartRefused}
 use Rattle.texts.specs.declared.reading.TextRefusal.{TextRefusal}
 use Rattle.texts.specs.declared.reading.TextRefusal.TheVariants.{NoContract, Limit}
@@ -14,8 +14,8 @@ use Rattle.mornings.specs.Verdict.{Fault, fault, taken, refused}
 use Rattle.mornings.specs.Judgement.{TextRead, no_text, not_built, a_contract, cut_off, cut_short}
 use Rattle.mornings.specs.declared.Start.{Start}
 
-pub text_goes_on : (x : Contract) (w : List ℕ) → Text x w → Goes_on w
-unfolding Goes_on
+pub text_goes_on : (x : Contract) (w : List ℕ) → Text x w → GoesOn w
+unfolding GoesOn
 text_goes_on x w t = (x, [], subst (Text x) (sym (append-nil w)) t)
 
 -- a contract whose text is taken has few marks
@@ -38,7 +38,7 @@ one_or_two rs cs w _ _ (past_limits x h t o) e = omega arith
 one_or_two rs cs w _ _ (out_of_range x ns h t i n o) e = omega arith
 
 -- a text that is not too long and refused with 2 is some contract's
-goes_on_past : (rs cs : ℕ) (w : List ℕ) (k p : ℕ) → length w ≤ 8192 → TextRefused rs cs w k p → k ≡ 2 → Goes_on w
+goes_on_past : (rs cs : ℕ) (w : List ℕ) (k p : ℕ) → length w ≤ 8192 → TextRefused rs cs w k p → k ≡ 2 → GoesOn w
 goes_on_past rs cs w _ _ small (too_long h) e = let z : ⊥ = omega arith in absurd z
 goes_on_past rs cs w _ _ small (no_contract h r) e = let z : ⊥ = omega arith in absurd z
 goes_on_past rs cs w _ _ small (past_limits x h t o) e = text_goes_on x w t
@@ -65,12 +65,12 @@ module _ (stage : Stage) (st : Start) (n : ℕ) (s : List ℕ) (i : ℕ) (short 
 
     -- it goes on so up to the end
     pub is_short : (x : Contract) → TextTaken st.rates st.currencies (take (length s - i) (drop i s)) x → TextRead stage st n s i (refused (fault 3 (length s)))
-    is_short x t = cut_short short past (subst Goes_on (take_rest s i) (text_goes_on x _ t.text_of))
+    is_short x t = cut_short short past (subst GoesOn (take_rest s i) (text_goes_on x _ t.text_of))
 
     pub is_past : (e : TextRefusal) (p : ℕ) → e ≡ Limit p → PartRefused st.rates st.currencies (take (length s - i) (drop i s)) i e → TextRead stage st n s i (refused (fault 3 (length s)))
     is_past e p same h =
         let r = subst (PartRefused st.rates st.currencies (take (length s - i) (drop i s)) i) same h in
-        cut_short short past (subst Goes_on (take_rest s i) (goes_on_past st.rates st.currencies _ 2 r.0 rest_short r.1 (omega arith)))
+        cut_short short past (subst GoesOn (take_rest s i) (goes_on_past st.rates st.currencies _ 2 r.0 rest_short r.1 (omega arith)))
 
     -- refused at a byte that is there
     pub is_off : (e : TextRefusal) (p : ℕ) → e ≡ NoContract p → PartRefused st.rates st.currencies (take (length s - i) (drop i s)) i e → p < length s → TextRead stage st n s i (refused (fault 1 p))
@@ -85,4 +85,4 @@ module _ (stage : Stage) (st : Start) (n : ℕ) (s : List ℕ) (i : ℕ) (short 
         let r = subst (PartRefused st.rates st.currencies (take (length s - i) (drop i s)) i) same h in
         let all : length (drop i s) ≤ r.0 = omega (arith, length-drop i s, r.2) in
         let at = is_refused_at st.rates st.currencies _ 1 r.0 r.1 (omega arith) in
-        cut_short short past (subst Goes_on (ap (take r.0) (take_rest s i) ∙ take_all r.0 (drop i s) all) at.so_far)
+        cut_short short past (subst GoesOn (ap (take r.0) (take_rest s i) ∙ take_all r.0 (drop i s) all) at.so_far)

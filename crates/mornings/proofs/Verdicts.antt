@@ -3,7 +3,7 @@ use Rattle.std.proofs.Common.{◌≡◌, ℕ, zero, suc, ◌+◌, ◌<◌, ◌�
 use Rattle.std.proofs.lemmas.List.{take-take}
 use Rattle.std.proofs.lemmas.Bool.{cases_lt}
 use Rattle.deals.specs.Contract.{Contract}
-use Rattle.texts.specs.Text.{Text, Goes_on, RefusedAt}
+use Rattle.texts.specs.Text.{Text, GoesOn, RefusedAt}
 use Rattle.texts.proofs.Verdicts.{one_verdict as text-verdicts}
 use Rattle.texts.specs.Stages.{built_at}
 use Rattle.texts.specs.declared.stages.Stage.{Stage}
@@ -43,15 +43,15 @@ end_one s i _ _ (ends h) (goes_on g) = let z : ⊥ = omega arith in absurd z
 end_one s i _ _ (ends h) (ends g) = refl
 
 -- what begins as a text goes on so, and each beginning of it
-pub goes_on_less : (w : List ℕ) (m n : ℕ) → m ≤ n → Goes_on (take n w) → Goes_on (take m w)
-unfolding Goes_on
+pub goes_on_less : (w : List ℕ) (m n : ℕ) → m ≤ n → GoesOn (take n w) → GoesOn (take m w)
+unfolding GoesOn
 goes_on_less w m n le (x, t, h) =
     let e : take m w ++ (drop m (take n w) ++ t) ≡ take n w ++ t =
     sym (append_assoc (take m w) (drop m (take n w)) t) ∙ ap (λ z. (z ++ drop m (take n w)) ++ t) (sym (take-take m n w le)) ∙ ap (λ z. z ++ t) (take-append-drop m (take n w)) in
     (x, drop m (take n w) ++ t, subst (Text x) (sym e) h)
 
-pub text_goes_on : (x : Contract) (w : List ℕ) (m : ℕ) → Text x w → Goes_on (take m w)
-unfolding Goes_on
+pub text_goes_on : (x : Contract) (w : List ℕ) (m : ℕ) → Text x w → GoesOn (take m w)
+unfolding GoesOn
 text_goes_on x w m h = (x, drop m w, subst (Text x) (sym (take-append-drop m w)) h)
 
 -- a text is refused at one place
@@ -62,8 +62,8 @@ pub refused_one : (w : List ℕ) (p q : ℕ) → RefusedAt w p → RefusedAt w q
 refused_one w p q a b =
     ⊎_elim (λ l. absurd (refused_less w p q a b l)) (λ h. ⊎_elim (λ l. absurd (refused_less w q p b a l)) (λ k. omega arith) (cases_lt q p)) (cases_lt p q)
 
-cut_none : (w : List ℕ) (p : ℕ) → RefusedAt w p → p < length w → Goes_on w → ⊥
-unfolding Goes_on
+cut_none : (w : List ℕ) (p : ℕ) → RefusedAt w p → p < length w → GoesOn w → ⊥
+unfolding GoesOn
 cut_none w p r lt (x, t, h) =
     r.no_more lt (x, drop (suc p) w ++ t, subst (Text x) (ap (λ z. z ++ t) (sym (take-append-drop (suc p) w)) ∙ append_assoc (take (suc p) w) (drop (suc p) w) t) h)
 

@@ -4,7 +4,7 @@ use Rattle.std.specs.Int.{w64}
 use Rattle.std.proofs.Common.{to_z}
 use Rattle.deals.specs.Contract.{Contract, Deal, Choice, Morning}
 use Rattle.octets.specs.Octets.{field}
-use Rattle.texts.specs.Text.{Goes_on, RefusedAt}
+use Rattle.texts.specs.Text.{GoesOn, RefusedAt}
 use Rattle.texts.specs.Bounds.{TextTaken, TextRefused}
 use Rattle.texts.specs.Stages.{built_at}
 use Rattle.texts.specs.declared.stages.Stage.{Stage}
@@ -53,7 +53,7 @@ pub data TextRead (stage : Stage) (st : Start) (n : ℕ) (s : List ℕ) (i : ℕ
   a_contract : (x : Contract) →
       n ≤ 8192 → i + n ≤ length s → TextTaken st.rates st.currencies (field n s i) x → built_at stage x ≡ true → TextRead stage st n s i (taken x (i + n))
   cut_off : {p : ℕ} → n ≤ 8192 → length s < i + n → RefusedAt (drop i s) p → i + p < length s → TextRead stage st n s i (refused (fault 1 (i + p)))
-  cut_short : n ≤ 8192 → length s < i + n → Goes_on (drop i s) → TextRead stage st n s i (refused (fault 3 (length s)))
+  cut_short : n ≤ 8192 → length s < i + n → GoesOn (drop i s) → TextRead stage st n s i (refused (fault 3 (length s)))
 
 -- the fault of what comes too many, at its first byte, unless its first part has a fault at that same byte
 pub data IsTooMany {B : Type 0} (First : Reading B) (s : List ℕ) (i : ℕ) : Fault → Type 0 where
@@ -114,7 +114,7 @@ abbrev pub MorningRead : Stage → Start → ℕ → ℕ → Reading Morning
 MorningRead stage st day so_far = Limited day (Number 2 Any) (MorningFields stage st day so_far)
 
 -- the parts of a morning that was taken, by their places
-pub record Laid_out (stage : Stage) (st : Start) (day so_far : ℕ) (s : List ℕ) (ends : Ends) (m : Morning) : Type 0 where
+pub record LaidOut (stage : Stage) (st : Start) (day so_far : ℕ) (s : List ℕ) (ends : Ends) (m : Morning) : Type 0 where
   pub whole : MorningRead stage st day so_far s 0 (taken m (length s))
   pub deals : Row ends.deals (DealRead stage st day) so_far s 2 (taken m.deals ends.rates_at)
   pub rates : (to : ℕ) × Row st.rates (λ _. RateRead) 0 s ends.rates_at (taken m.day.rates to)
@@ -126,4 +126,4 @@ StartJudged s r = MatchResult r (λ start. StartRead s 0 (taken start (length s)
 
 abbrev pub MorningJudged : Stage → Start → ℕ → ℕ → List ℕ → Result Ends Refusal → Type 0
 MorningJudged stage st day so_far s r =
-    MatchResult r (λ ends. (m : Morning) × Laid_out stage st day so_far s ends m) (λ e. MorningRead stage st day so_far s 0 (refused (fault_of e)))
+    MatchResult r (λ ends. (m : Morning) × LaidOut stage st day so_far s ends m) (λ e. MorningRead stage st day so_far s 0 (refused (fault_of e)))

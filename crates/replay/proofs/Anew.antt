@@ -4,7 +4,7 @@ use Rattle.std.proofs.lemmas.List.{get_or_append_left, get_or_at, take-append-le
 use Rattle.std.proofs.lemmas.Bool.{cases_lt}
 use Rattle.deals.specs.Contract.{Morning, all_deals}
 use Rattle.texts.specs.declared.stages.Stage.TheVariants.{All}
-use Rattle.mornings.specs.Judgement.{Laid_out}
+use Rattle.mornings.specs.Judgement.{LaidOut}
 use Rattle.mornings.specs.declared.Start.{Start}
 use Rattle.mornings.specs.declared.Ends.{Ends}
 use Rattle.replay.specs.declared.days.DayAt.{DayAt}
@@ -30,12 +30,12 @@ bytes_last kept s ends =
     ap (λ z. take z (drop (length kept) (kept ++ s))) long ∙ ap (take (length s)) (drop_at kept s (length kept) refl) ∙ take_all (length s) s (omega arith)
 
 module _ (st : Start) (kept s : List ℕ) (days : List DayAt) (ms : List Morning) (ends : Ends) (m : Morning) (stand : MorningsStand st kept days ms)
-    (laid : Laid_out All st (length ms) (length (all_deals ms)) s ends m) where
+    (laid : LaidOut All st (length ms) (length (all_deals ms)) s ends m) where
   abbrev last : DayAt
   last = record { from = length kept; to = length kept + length s; parts = ends }
 
   abbrev Judged : ℕ → List ℕ → DayAt → ℕ → Morning → Type 0
-  Judged t bytes d n k = Laid_out All st t n bytes d.parts k
+  Judged t bytes d n k = LaidOut All st t n bytes d.parts k
 
   day_before : (t : ℕ) → t < length ms → get_or (days ++ last ∷ []) t nowhere ≡ get_or days t nowhere
   day_before t lt = get_or_append_left days (last ∷ []) nowhere t (omega (arith, stand.many))
@@ -44,7 +44,7 @@ module _ (st : Start) (kept s : List ℕ) (days : List DayAt) (ms : List Morning
   day_last = get_or_at days last [] nowhere (length ms) stand.many
 
   judged_before : (t : ℕ) → t < length ms →
-      Laid_out All st t (length (all_deals (take t (ms ++ m ∷ [])))) (bytes_of (kept ++ s) (get_or (days ++ last ∷ []) t nowhere)) (get_or (days ++ last ∷ []) t nowhere).parts (get_or (ms ++ m ∷ []) t no_morning)
+      LaidOut All st t (length (all_deals (take t (ms ++ m ∷ [])))) (bytes_of (kept ++ s) (get_or (days ++ last ∷ []) t nowhere)) (get_or (days ++ last ∷ []) t nowhere).parts (get_or (ms ++ m ∷ []) t no_morning)
   judged_before t lt =
       let le : t ≤ length ms = omega arith in
       let d = day_before t lt in
@@ -57,7 +57,7 @@ module _ (st : Start) (kept s : List ℕ) (days : List DayAt) (ms : List Morning
       (subst (λ z. Judged t z (get_or days t nowhere) (length (all_deals (take t ms))) (get_or ms t no_morning)) b (stand.judged t lt))))
 
   judged_last :
-      Laid_out All st (length ms) (length (all_deals (take (length ms) (ms ++ m ∷ [])))) (bytes_of (kept ++ s) (get_or (days ++ last ∷ []) (length ms) nowhere)) (get_or (days ++ last ∷ []) (length ms) nowhere).parts
+      LaidOut All st (length ms) (length (all_deals (take (length ms) (ms ++ m ∷ [])))) (bytes_of (kept ++ s) (get_or (days ++ last ∷ []) (length ms) nowhere)) (get_or (days ++ last ∷ []) (length ms) nowhere).parts
       (get_or (ms ++ m ∷ []) (length ms) no_morning)
   judged_last =
       let t = length ms in
@@ -80,7 +80,7 @@ module _ (st : Start) (kept s : List ℕ) (days : List DayAt) (ms : List Morning
             (λ le. let same : t ≡ length ms = omega arith in omega (arith, ap (λ z. (get_or (days ++ last ∷ []) z nowhere).to) same, ap (λ d. d.to) day_last, length-append kept s)) (cases_lt t (length ms));
         judged = λ t lt. ⊎_elim (λ l. judged_before t l)
             (λ le. let same : length ms ≡ t = omega arith in
-            subst (λ z. Laid_out All st z (length (all_deals (take z (ms ++ m ∷ [])))) (bytes_of (kept ++ s) (get_or (days ++ last ∷ []) z nowhere)) (get_or (days ++ last ∷ []) z nowhere).parts (get_or (ms ++ m ∷ []) z no_morning)) same judged_last)
+            subst (λ z. LaidOut All st z (length (all_deals (take z (ms ++ m ∷ [])))) (bytes_of (kept ++ s) (get_or (days ++ last ∷ []) z nowhere)) (get_or (days ++ last ∷ []) z nowhere).parts (get_or (ms ++ m ∷ []) z no_morning)) same judged_last)
             (cases_lt t (length ms));
       }
 

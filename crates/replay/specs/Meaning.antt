@@ -2,7 +2,7 @@
 use Rattle.std.specs.Prelude.{◌≡◌, ℕ, ◌<◌, ◌≤◌, Bool, List, [], ◌∷◌, length, get_or, ℤ, pos, ◌==◌, slice_index_or}
 use Rattle.std.specs.List.{AllByRecursion}
 use Rattle.deals.specs.Contract.{Day, Flow, Path, pick, no_day, chosen}
-use Rattle.deals.specs.Residual.{Due as Deal-due}
+use Rattle.deals.specs.Residual.{Due as DealDue}
 use Rattle.deals.specs.Short.{RatesFit}
 use Rattle.replay.specs.declared.days.DayAt.{DayAt}
 use Rattle.replay.specs.declared.choices.Way.{Way}
@@ -40,5 +40,5 @@ unfoldable pub dues_on : ℕ → List Flow → List Due
 dues_on u [] = []
 dues_on u (f ∷ fs) = pick (f.on == u) (due_of f ∷ dues_on u fs) (dues_on u fs)
 
-abbrev pub as_due : Due → Deal-due
+abbrev pub as_due : Due → DealDue
 as_due d = record { currency = d.currency; amount = d.amount }

@@ -4,7 +4,7 @@ use Rattle.deals.specs.Contract.{Morning, no_day, net, all_deals}
 use Rattle.deals.specs.Lines.{all_lines}
 use Rattle.deals.specs.Payments.{written}
 use Rattle.texts.specs.declared.stages.Stage.TheVariants.{All}
-use Rattle.mornings.specs.Judgement.{Laid_out}
+use Rattle.mornings.specs.Judgement.{LaidOut}
 use Rattle.mornings.specs.Written.{StartFits}
 use Rattle.mornings.specs.declared.Start.{Start}
 use Rattle.mornings.specs.declared.Ends.{Ends}
@@ -24,14 +24,14 @@ pub record MorningsStand (st : Start) (kept : List ℕ) (days : List DayAt) (ms 
   pub many : length days ≡ length ms
   pub within : (t : ℕ) → t < length ms → (get_or days t nowhere).to ≤ length kept
   pub judged : (t : ℕ) → t < length ms →
-      Laid_out All st t (length (all_deals (take t ms))) (bytes_of kept (slice_index_or days t nowhere)) (get_or days t nowhere).parts (slice_index_or ms t no_morning)
+      LaidOut All st t (length (all_deals (take t ms))) (bytes_of kept (slice_index_or days t nowhere)) (get_or days t nowhere).parts (slice_index_or ms t no_morning)
 
 -- AS A LAW: with no mornings nothing is kept; a morning that is judged on the next day, and kept behind the others, stands there too. So it is true of every run
 abbrev pub StandsAnew : Type 0
 StandsAnew =
     ((st : Start) → StartFits st → MorningsStand st [] [] [])
     × ((st : Start) (kept s : List ℕ) (days : List DayAt) (ms : List Morning) (ends : Ends) (m : Morning) → MorningsStand st kept days ms →
-    Laid_out All st (length ms) (length (all_deals ms)) s ends m →
+    LaidOut All st (length ms) (length (all_deals ms)) s ends m →
     MorningsStand st (kept ++ s) (days ++ record { from = length kept; to = length kept + length s; parts = ends } ∷ []) (ms ++ m ∷ []))
 
 -- what is paid on the last of some mornings: for each two houses, the lower first, and each currency, what the deals between them come to that day, if it isn't 0

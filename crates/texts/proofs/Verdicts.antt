@@ -3,7 +3,7 @@ use Rattle.std.proofs.Common.{◌≡◌, ℕ, zero, suc, ◌+◌, ◌-◌, ◌*�
 use Rattle.std.proofs.lemmas.Bool.{cases_lt}
 use Rattle.deals.specs.Contract.{Figure, fixed, rate, day, plus, minus, times, most, less, Contract, nothing, pays, turned, both, choice, either, scaled, on_day, when, by_day}
 use Rattle.deals.specs.Promise.{size, marks, figure_marks, FigureFits, PartsFit, ContractFits}
-use Rattle.texts.specs.Text.{Text, Goes_on, RefusedAt}
+use Rattle.texts.specs.Text.{Text, GoesOn, RefusedAt}
 use Rattle.texts.specs.Written.{written_number, written_amount, written_rate, written_figure, written}
 use Rattle.texts.specs.Bounds.{Numeral, ContractNumerals, InRange, FirstOut, IsWithinLimits, TextTaken, TextRefused, too_long, no_contract, past_limits, out_of_range, OneVerdict, HasTaken}
 use Rattle.texts.proofs.HasText.{has_text}
@@ -28,8 +28,8 @@ not_both (n ∷ ns) p h (inl k) = omega arith
 not_both (n ∷ ns) p h (inr k) = not_both ns p h.1 k.1
 
 -- what begins a text that goes on goes on
-goes_shorter : (text : List ℕ) (m n : ℕ) → m ≤ n → Goes_on (take n text) → Goes_on (take m text)
-unfolding Goes_on
+goes_shorter : (text : List ℕ) (m n : ℕ) → m ≤ n → GoesOn (take n text) → GoesOn (take m text)
+unfolding GoesOn
 goes_shorter text m n le (x, t, h) =
     let same : m + (n - m) ≡ n = omega arith in
     let cut : take n text ≡ take m text ++ take (n - m) (drop m text) = ap (λ k. take k text) (sym same) ∙ take-add m (n - m) text in

@@ -4,7 +4,7 @@ use native.Mathlib.Decide.{dec_lt}
 use Rattle.std.specs.List.{between}
 use Rattle.std.proofs.lemmas.List.{take_all, get_or_past, length-take-le, append-nil}
 use Rattle.deals.specs.Contract.{Contract}
-use Rattle.texts.specs.Text.{Text, Goes_on, RefusedAt}
+use Rattle.texts.specs.Text.{Text, GoesOn, RefusedAt}
 use Rattle.texts.specs.Reading.{byte_at, Begins, NoDigit, Took, Stops}
 
 module _ (text : List ℕ) (p : ℕ) (h : p ≤ length text) where
@@ -35,7 +35,7 @@ module _ (text : List ℕ) (p : ℕ) (h : p ≤ length text) where
 
 -- refused where the reader stops
 pub refused_where : (text : List ℕ) (p : ℕ) → Stops NoDigit Text text 0 p → RefusedAt text p
-unfolding Goes_on
+unfolding GoesOn
 refused_where text p s = record {
   within = s.within;
   so_far = (s.stuck.goes.0, s.stuck.goes.1, subst (λ u. Text s.stuck.goes.0 (u ++ s.stuck.goes.1)) (front text p s.within) s.stuck.goes.2);
@@ -45,7 +45,7 @@ refused_where text p s = record {
 
 -- refused behind a contract where the text goes on
 pub refused_behind : (text : List ℕ) (p : ℕ) (x : Contract) → Took NoDigit Text text 0 p x → p < length text → RefusedAt text p
-unfolding Goes_on
+unfolding GoesOn
 refused_behind text p x s l = record {
   within = s.within;
   so_far = (x, [], subst (Text x) (front text p s.within ∙ sym (append-nil (take p text))) s.taken.word);

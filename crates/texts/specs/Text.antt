@@ -65,12 +65,12 @@ Text (when e x) = exactly "when " then FigureText e then exactly ": " then Text 
 Text (by_day d x) = exactly "by " then Number d then exactly ": " then Text x
 
 -- some contract's text begins so
-unfoldable pub Goes_on : List ℕ → Type 0
-Goes_on s = (x : Contract) × (t : List ℕ) × Text x (s ++ t)
+unfoldable pub GoesOn : List ℕ → Type 0
+GoesOn s = (x : Contract) × (t : List ℕ) × Text x (s ++ t)
 
 -- a text that is no contract's goes on up to a place, and at that byte goes on no more; just past its end, it ends too soon
 pub record RefusedAt (text : List ℕ) (place : ℕ) : Type 0 where
   pub within : place ≤ length text
-  pub so_far : Goes_on (take place text)
-  pub no_more : place < length text → Goes_on (take (suc place) text) → ⊥
+  pub so_far : GoesOn (take place text)
+  pub no_more : place < length text → GoesOn (take (suc place) text) → ⊥
   pub none : (x : Contract) → Text x text → ⊥
