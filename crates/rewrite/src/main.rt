@@ -1,27 +1,13 @@
 // Reads the text of a contract on standard input, of which one line feed at its end is no part, and prints it anew, or why and where it is refused.
 #![tactic(auto)]
 
-ghost use Rattle.std.specs.Prelude.{◌≤◌, length};
-
 use std::io;
 use std::io::Read;
 use texts::nodes::Tree;
-use texts::reading::{TextRefusal, read_part};
+use texts::reading::read_part;
 use texts::writing::write_contract;
 
-// Where the text ends: before a line feed at the end of all bytes.
-fn text_end(bytes: &[u8]) -> usize
-    ensures { result ≤ length bytes.now }
-{
-    let n = bytes.len();
-    if n > 0 && bytes[n - 1] == 10 {
-        n - 1
-    } else {
-        n
-    }
-}
-
-// Prints a contract; a text of at most 8,192 bytes has room for it.
+// Prints a contract; a text of at most 8,192 bytes has room for it. So in `text_table`: of what is printed a library could promise nothing.
 fn print_anew(rt: &HostRuntime, tree: &Tree) -> io::Result<()> {
     let mut out = [0u8; 8192];
     let Ok(n) = write_contract(tree, &mut out) else {
@@ -34,10 +20,10 @@ fn print_anew(rt: &HostRuntime, tree: &Tree) -> io::Result<()> {
 fn main(rt: HostRuntime) -> io::Result<()> {
     let mut bytes = Vec::new(rt.alloc());
     rt.stdin().read_to_end(&mut bytes)?;
+    let text = bytes.strip_suffix(b"\n").unwrap_or(&bytes);
     let mut tree = Tree::new();
-    match read_part(&bytes, 0, text_end(&bytes), 256, 64, &mut tree) {
+    match read_part(text, 0, text.len(), 256, 64, &mut tree) {
         Ok(()) => print_anew(&rt, &tree),
-        Err(TextRefusal::NoContract(place)) => println!(rt; "refused 1 at {place}"),
-        Err(TextRefusal::Limit(place)) => println!(rt; "refused 2 at {place}"),
+        Err(refusal) => println!(rt; "{refusal}"),
     }
 }

@@ -4,9 +4,10 @@
 use std::io;
 use std::io::{BufRead, BufReader};
 use texts::nodes::Tree;
-use texts::reading::{TextRefusal, read_part};
+use texts::reading::read_part;
 use texts::writing::write_contract;
 
+// Prints a contract. So in `rewrite`.
 fn print_anew(rt: &HostRuntime, tree: &Tree) -> io::Result<()> {
     let mut out = [0u8; 8192];
     let Ok(n) = write_contract(tree, &mut out) else {
@@ -20,8 +21,7 @@ fn print_verdict(rt: &HostRuntime, text: &[u8]) -> io::Result<()> {
     let mut tree = Tree::new();
     match read_part(text, 0, text.len(), 256, 64, &mut tree) {
         Ok(()) => print_anew(rt, &tree),
-        Err(TextRefusal::NoContract(place)) => println!(rt; "refused 1 at {place}"),
-        Err(TextRefusal::Limit(place)) => println!(rt; "refused 2 at {place}"),
+        Err(refusal) => println!(rt; "{refusal}"),
     }
 }
 

@@ -1,15 +1,16 @@
 -- What the readers of contracts promise. Assumes nothing.
-use Rattle.std.proofs.Common.{◌≡◌, ℕ, ◌+◌, ◌≤◌, Bool, true, ◌&&◌, ◌||◌, eqb, List, ◌++◌, ℤ, codes, sym, refl, ap, ◌∙◌, append_assoc, arith, eqb-true}
-use Rattle.std.proofs.lemmas.Bool.{and_parts}
+use Rattle.std.proofs.lemmas.Bool.{false≢true, and_parts}
+use Rattle.std.proofs.Common.{◌≡◌, ℕ, ◌+◌, ◌≤◌, Bool, true, ◌&&◌, ◌||◌, eqb, List, [], ◌∷◌, ◌++◌, length, ℤ, codes, sym, refl, ap, ◌∙◌, append_assoc, length-append, arith, eqb-true}
+use Rattle.std.proofs.lemmas.List.Edits.{length-between}
 use Rattle.deals.specs.Contract.{Figure, fixed, rate, day, plus, minus, times, most, less, Contract, nothing, pays, turned, both, choice, either, scaled, on_day, when, by_day}
 use Rattle.texts.specs.Text.{Language, exactly, ◌then◌, digit, Number, Amount, FigureText, Text}
 use Rattle.texts.specs.Reading.{byte_at, Any, NoDigit, Word, Took, Stops}
 use Rattle.texts.specs.Figures.{Ended}
-use Rattle.texts.specs.Openings.{PairRest, DayColon}
-use Rattle.texts.proofs.Parts.{Pair, took_as, stops_as}
+use Rattle.texts.specs.Openings.{PairText, DayColon}
+use Rattle.texts.proofs.Parts.{Pair, HasOne, took_as, stops_as, stops_past}
 use Rattle.texts.proofs.Thens.{then_right, then_left, then_map, with_end, without_end}
 use Rattle.texts.proofs.RateEnd.{SameBytes, at_first}
-use Rattle.texts.proofs.FigureParts.{led, starts, figure_starts, never}
+use Rattle.texts.proofs.FigureParts.{some_number, led, starts, figure_starts}
 
 -- which bytes a figure, and which two a contract may begin with
 abbrev pub figure_head : ℕ → Bool
@@ -67,15 +68,15 @@ module _ (text : List ℕ) (at : ℕ) (opens : byte_at text at ≡ 110) where
 
   nothing_back : (to : ℕ) → at ≤ to → (y : Contract) (w k : List ℕ) → Text y w → NoDigit k → SameBytes (w ++ k) text at to → (p : Unit {0}) × NothingParts p w × (nothing_make p ≡ y)
   nothing_back to le nothing w k t f s = (tt, t, refl)
-  nothing_back to le (pays j a) w k t f s = absurd (never (begins_so (pays j a) 110 w k text at to t le s opens))
-  nothing_back to le (turned x) w k t f s = absurd (never (begins_so (turned x) 110 w k text at to t le s opens))
-  nothing_back to le (both x z) w k t f s = absurd (never (begins_so (both x z) 110 w k text at to t le s opens))
-  nothing_back to le (choice x z) w k t f s = absurd (never (begins_so (choice x z) 110 w k text at to t le s opens))
-  nothing_back to le (either e x z) w k t f s = absurd (never (begins_so (either e x z) 110 w k text at to t le s opens))
-  nothing_back to le (scaled e x) w k t f s = absurd (never (begins_so (scaled e x) 110 w k text at to t le s opens))
-  nothing_back to le (on_day d x) w k t f s = absurd (never (begins_so (on_day d x) 110 w k text at to t le s opens))
-  nothing_back to le (when e x) w k t f s = absurd (never (begins_so (when e x) 110 w k text at to t le s opens))
-  nothing_back to le (by_day d x) w k t f s = absurd (never (begins_so (by_day d x) 110 w k text at to t le s opens))
+  nothing_back to le (pays j a) w k t f s = absurd (false≢true (begins_so (pays j a) 110 w k text at to t le s opens))
+  nothing_back to le (turned x) w k t f s = absurd (false≢true (begins_so (turned x) 110 w k text at to t le s opens))
+  nothing_back to le (both x z) w k t f s = absurd (false≢true (begins_so (both x z) 110 w k text at to t le s opens))
+  nothing_back to le (choice x z) w k t f s = absurd (false≢true (begins_so (choice x z) 110 w k text at to t le s opens))
+  nothing_back to le (either e x z) w k t f s = absurd (false≢true (begins_so (either e x z) 110 w k text at to t le s opens))
+  nothing_back to le (scaled e x) w k t f s = absurd (false≢true (begins_so (scaled e x) 110 w k text at to t le s opens))
+  nothing_back to le (on_day d x) w k t f s = absurd (false≢true (begins_so (on_day d x) 110 w k text at to t le s opens))
+  nothing_back to le (when e x) w k t f s = absurd (false≢true (begins_so (when e x) 110 w k text at to t le s opens))
+  nothing_back to le (by_day d x) w k t f s = absurd (false≢true (begins_so (by_day d x) 110 w k text at to t le s opens))
 
   pub nothing_as : {to : ℕ} {p : Unit {0}} → Took NoDigit NothingParts text at to p → Took NoDigit Text text at to (nothing_make p)
   nothing_as {to} {p} t = took_as NoDigit NothingParts Text nothing_make nothing_sound text at to (nothing_back to t.forward) p t
@@ -96,15 +97,15 @@ module _ (text : List ℕ) (at : ℕ) (opens : byte_at text at ≡ 112) where
 
   pays_back : (to : ℕ) → at ≤ to → (y : Contract) (w k : List ℕ) → Text y w → NoDigit k → SameBytes (w ++ k) text at to → (p : Unit {0} × (ℤ × (Unit {0} × ℕ))) × PaysParts p w × (pays_make p ≡ y)
   pays_back to le (pays j a) w k t f s = ((tt, (a, (tt, j))), t, refl)
-  pays_back to le nothing w k t f s = absurd (never (begins_so nothing 112 w k text at to t le s opens))
-  pays_back to le (turned x) w k t f s = absurd (never (begins_so (turned x) 112 w k text at to t le s opens))
-  pays_back to le (both x z) w k t f s = absurd (never (begins_so (both x z) 112 w k text at to t le s opens))
-  pays_back to le (choice x z) w k t f s = absurd (never (begins_so (choice x z) 112 w k text at to t le s opens))
-  pays_back to le (either e x z) w k t f s = absurd (never (begins_so (either e x z) 112 w k text at to t le s opens))
-  pays_back to le (scaled e x) w k t f s = absurd (never (begins_so (scaled e x) 112 w k text at to t le s opens))
-  pays_back to le (on_day d x) w k t f s = absurd (never (begins_so (on_day d x) 112 w k text at to t le s opens))
-  pays_back to le (when e x) w k t f s = absurd (never (begins_so (when e x) 112 w k text at to t le s opens))
-  pays_back to le (by_day d x) w k t f s = absurd (never (begins_so (by_day d x) 112 w k text at to t le s opens))
+  pays_back to le nothing w k t f s = absurd (false≢true (begins_so nothing 112 w k text at to t le s opens))
+  pays_back to le (turned x) w k t f s = absurd (false≢true (begins_so (turned x) 112 w k text at to t le s opens))
+  pays_back to le (both x z) w k t f s = absurd (false≢true (begins_so (both x z) 112 w k text at to t le s opens))
+  pays_back to le (choice x z) w k t f s = absurd (false≢true (begins_so (choice x z) 112 w k text at to t le s opens))
+  pays_back to le (either e x z) w k t f s = absurd (false≢true (begins_so (either e x z) 112 w k text at to t le s opens))
+  pays_back to le (scaled e x) w k t f s = absurd (false≢true (begins_so (scaled e x) 112 w k text at to t le s opens))
+  pays_back to le (on_day d x) w k t f s = absurd (false≢true (begins_so (on_day d x) 112 w k text at to t le s opens))
+  pays_back to le (when e x) w k t f s = absurd (false≢true (begins_so (when e x) 112 w k text at to t le s opens))
+  pays_back to le (by_day d x) w k t f s = absurd (false≢true (begins_so (by_day d x) 112 w k text at to t le s opens))
 
   pub pays_as : {to : ℕ} {p : Unit {0} × (ℤ × (Unit {0} × ℕ))} → Took NoDigit PaysParts text at to p → Took NoDigit Text text at to (pays_make p)
   pays_as {to} {p} t = took_as NoDigit PaysParts Text pays_make pays_sound text at to (pays_back to t.forward) p t
@@ -125,15 +126,15 @@ module _ (text : List ℕ) (at : ℕ) (opens : byte_at text at ≡ 116) where
 
   turned_back : (to : ℕ) → at ≤ to → (y : Contract) (w k : List ℕ) → Text y w → NoDigit k → SameBytes (w ++ k) text at to → (p : Unit {0} × (Contract × Unit {0})) × TurnedParts p w × (turned_make p ≡ y)
   turned_back to le (turned x) w k t f s = ((tt, (x, tt)), t, refl)
-  turned_back to le nothing w k t f s = absurd (never (begins_so nothing 116 w k text at to t le s opens))
-  turned_back to le (pays j a) w k t f s = absurd (never (begins_so (pays j a) 116 w k text at to t le s opens))
-  turned_back to le (both x z) w k t f s = absurd (never (begins_so (both x z) 116 w k text at to t le s opens))
-  turned_back to le (choice x z) w k t f s = absurd (never (begins_so (choice x z) 116 w k text at to t le s opens))
-  turned_back to le (either e x z) w k t f s = absurd (never (begins_so (either e x z) 116 w k text at to t le s opens))
-  turned_back to le (scaled e x) w k t f s = absurd (never (begins_so (scaled e x) 116 w k text at to t le s opens))
-  turned_back to le (on_day d x) w k t f s = absurd (never (begins_so (on_day d x) 116 w k text at to t le s opens))
-  turned_back to le (when e x) w k t f s = absurd (never (begins_so (when e x) 116 w k text at to t le s opens))
-  turned_back to le (by_day d x) w k t f s = absurd (never (begins_so (by_day d x) 116 w k text at to t le s opens))
+  turned_back to le nothing w k t f s = absurd (false≢true (begins_so nothing 116 w k text at to t le s opens))
+  turned_back to le (pays j a) w k t f s = absurd (false≢true (begins_so (pays j a) 116 w k text at to t le s opens))
+  turned_back to le (both x z) w k t f s = absurd (false≢true (begins_so (both x z) 116 w k text at to t le s opens))
+  turned_back to le (choice x z) w k t f s = absurd (false≢true (begins_so (choice x z) 116 w k text at to t le s opens))
+  turned_back to le (either e x z) w k t f s = absurd (false≢true (begins_so (either e x z) 116 w k text at to t le s opens))
+  turned_back to le (scaled e x) w k t f s = absurd (false≢true (begins_so (scaled e x) 116 w k text at to t le s opens))
+  turned_back to le (on_day d x) w k t f s = absurd (false≢true (begins_so (on_day d x) 116 w k text at to t le s opens))
+  turned_back to le (when e x) w k t f s = absurd (false≢true (begins_so (when e x) 116 w k text at to t le s opens))
+  turned_back to le (by_day d x) w k t f s = absurd (false≢true (begins_so (by_day d x) 116 w k text at to t le s opens))
 
   pub turned_as : {to : ℕ} {p : Unit {0} × (Contract × Unit {0})} → Took NoDigit TurnedParts text at to p → Took NoDigit Text text at to (turned_make p)
   turned_as {to} {p} t = took_as NoDigit TurnedParts Text turned_make turned_sound text at to (turned_back to t.forward) p t
@@ -143,62 +144,44 @@ module _ (text : List ℕ) (at : ℕ) (opens : byte_at text at ≡ 116) where
 
 -- two
 module _ (text : List ℕ) (at : ℕ) (opens : (byte_at text at ≡ 98) × (byte_at text (at + 1) ≡ 121 → ⊥)) where
-  abbrev pub BothParts : Unit {0} × (Contract × Contract) → Language
-  BothParts = Pair (Word (codes "both(")) PairRest
-
-  abbrev both_make : Unit {0} × (Contract × Contract) → Contract
-  both_make p = both p.1.0 p.1.1
-
-  both_sound : (p : Unit {0} × (Contract × Contract)) (w : List ℕ) → BothParts p w → Text (both_make p) w
-  both_sound p w h = h
-
-  both_back : (to : ℕ) → at + 1 ≤ to → (y : Contract) (w k : List ℕ) → Text y w → NoDigit k → SameBytes (w ++ k) text at to → (p : Unit {0} × (Contract × Contract)) × BothParts p w × (both_make p ≡ y)
-  both_back to le (both x z) w k t f s = ((tt, (x, z)), t, refl)
-  both_back to le nothing w k t f s = absurd (never (begins_so nothing 98 w k text at to t (omega arith) s opens.0))
-  both_back to le (pays j a) w k t f s = absurd (never (begins_so (pays j a) 98 w k text at to t (omega arith) s opens.0))
-  both_back to le (turned x) w k t f s = absurd (never (begins_so (turned x) 98 w k text at to t (omega arith) s opens.0))
-  both_back to le (choice x z) w k t f s = absurd (never (begins_so (choice x z) 98 w k text at to t (omega arith) s opens.0))
-  both_back to le (either e x z) w k t f s = absurd (never (begins_so (either e x z) 98 w k text at to t (omega arith) s opens.0))
-  both_back to le (scaled e x) w k t f s = absurd (never (begins_so (scaled e x) 98 w k text at to t (omega arith) s opens.0))
-  both_back to le (on_day d x) w k t f s = absurd (never (begins_so (on_day d x) 98 w k text at to t (omega arith) s opens.0))
-  both_back to le (when e x) w k t f s = absurd (never (begins_so (when e x) 98 w k text at to t (omega arith) s opens.0))
+  both_back : (to : ℕ) → at + 1 ≤ to → (y : Contract) (w k : List ℕ) → Text y w → NoDigit k → SameBytes (w ++ k) text at to → (p : Contract × Contract) × PairText (codes "both(") p w × (both p.0 p.1 ≡ y)
+  both_back to le (both x z) w k t f s = ((x, z), t, refl)
+  both_back to le nothing w k t f s = absurd (false≢true (begins_so nothing 98 w k text at to t (omega arith) s opens.0))
+  both_back to le (pays j a) w k t f s = absurd (false≢true (begins_so (pays j a) 98 w k text at to t (omega arith) s opens.0))
+  both_back to le (turned x) w k t f s = absurd (false≢true (begins_so (turned x) 98 w k text at to t (omega arith) s opens.0))
+  both_back to le (choice x z) w k t f s = absurd (false≢true (begins_so (choice x z) 98 w k text at to t (omega arith) s opens.0))
+  both_back to le (either e x z) w k t f s = absurd (false≢true (begins_so (either e x z) 98 w k text at to t (omega arith) s opens.0))
+  both_back to le (scaled e x) w k t f s = absurd (false≢true (begins_so (scaled e x) 98 w k text at to t (omega arith) s opens.0))
+  both_back to le (on_day d x) w k t f s = absurd (false≢true (begins_so (on_day d x) 98 w k text at to t (omega arith) s opens.0))
+  both_back to le (when e x) w k t f s = absurd (false≢true (begins_so (when e x) 98 w k text at to t (omega arith) s opens.0))
   both_back to le (by_day d x) w k t f s =
       absurd (opens.1 (sym (s 1 le) ∙ eqb-true (byte_at (w ++ k) 1) 121 (begins_so (by_day d x) 98 w k text at to t (omega arith) s opens.0)))
 
-  pub both_as : {to : ℕ} {p : Unit {0} × (Contract × Contract)} → at + 1 ≤ to → Took NoDigit BothParts text at to p → Took NoDigit Text text at to (both_make p)
-  both_as {to} {p} past t = took_as NoDigit BothParts Text both_make both_sound text at to (both_back to past) p t
+  pub both_as : {to : ℕ} {p : Contract × Contract} → at + 1 ≤ to → Took NoDigit (PairText (codes "both(")) text at to p → Took NoDigit Text text at to (both p.0 p.1)
+  both_as {to} {p} past t = took_as NoDigit (PairText (codes "both(")) Text (λ p. both p.0 p.1) (λ _ _ h. h) text at to (both_back to past) p t
 
-  pub both_stops : {to : ℕ} → at + 1 ≤ to → Stops NoDigit BothParts text at to → Stops NoDigit Text text at to
-  both_stops {to} past t = stops_as NoDigit BothParts Text both_make both_sound text at to (both_back to past) t
+  pub both_stops : {to : ℕ} → at + 1 ≤ to → Stops NoDigit (PairText (codes "both(")) text at to → Stops NoDigit Text text at to
+  both_stops {to} past t = stops_as NoDigit (PairText (codes "both(")) Text (λ p. both p.0 p.1) (λ _ _ h. h) text at to (both_back to past) t
 
 -- one of two
 module _ (text : List ℕ) (at : ℕ) (opens : byte_at text at ≡ 99) where
-  abbrev pub ChoiceParts : Unit {0} × (Contract × Contract) → Language
-  ChoiceParts = Pair (Word (codes "choice(")) PairRest
+  choice_back : (to : ℕ) → at ≤ to → (y : Contract) (w k : List ℕ) → Text y w → NoDigit k → SameBytes (w ++ k) text at to → (p : Contract × Contract) × PairText (codes "choice(") p w × (choice p.0 p.1 ≡ y)
+  choice_back to le (choice x z) w k t f s = ((x, z), t, refl)
+  choice_back to le nothing w k t f s = absurd (false≢true (begins_so nothing 99 w k text at to t le s opens))
+  choice_back to le (pays j a) w k t f s = absurd (false≢true (begins_so (pays j a) 99 w k text at to t le s opens))
+  choice_back to le (turned x) w k t f s = absurd (false≢true (begins_so (turned x) 99 w k text at to t le s opens))
+  choice_back to le (both x z) w k t f s = absurd (false≢true (begins_so (both x z) 99 w k text at to t le s opens))
+  choice_back to le (either e x z) w k t f s = absurd (false≢true (begins_so (either e x z) 99 w k text at to t le s opens))
+  choice_back to le (scaled e x) w k t f s = absurd (false≢true (begins_so (scaled e x) 99 w k text at to t le s opens))
+  choice_back to le (on_day d x) w k t f s = absurd (false≢true (begins_so (on_day d x) 99 w k text at to t le s opens))
+  choice_back to le (when e x) w k t f s = absurd (false≢true (begins_so (when e x) 99 w k text at to t le s opens))
+  choice_back to le (by_day d x) w k t f s = absurd (false≢true (begins_so (by_day d x) 99 w k text at to t le s opens))
 
-  abbrev choice_make : Unit {0} × (Contract × Contract) → Contract
-  choice_make p = choice p.1.0 p.1.1
+  pub choice_as : {to : ℕ} {p : Contract × Contract} → Took NoDigit (PairText (codes "choice(")) text at to p → Took NoDigit Text text at to (choice p.0 p.1)
+  choice_as {to} {p} t = took_as NoDigit (PairText (codes "choice(")) Text (λ p. choice p.0 p.1) (λ _ _ h. h) text at to (choice_back to t.forward) p t
 
-  choice_sound : (p : Unit {0} × (Contract × Contract)) (w : List ℕ) → ChoiceParts p w → Text (choice_make p) w
-  choice_sound p w h = h
-
-  choice_back : (to : ℕ) → at ≤ to → (y : Contract) (w k : List ℕ) → Text y w → NoDigit k → SameBytes (w ++ k) text at to → (p : Unit {0} × (Contract × Contract)) × ChoiceParts p w × (choice_make p ≡ y)
-  choice_back to le (choice x z) w k t f s = ((tt, (x, z)), t, refl)
-  choice_back to le nothing w k t f s = absurd (never (begins_so nothing 99 w k text at to t le s opens))
-  choice_back to le (pays j a) w k t f s = absurd (never (begins_so (pays j a) 99 w k text at to t le s opens))
-  choice_back to le (turned x) w k t f s = absurd (never (begins_so (turned x) 99 w k text at to t le s opens))
-  choice_back to le (both x z) w k t f s = absurd (never (begins_so (both x z) 99 w k text at to t le s opens))
-  choice_back to le (either e x z) w k t f s = absurd (never (begins_so (either e x z) 99 w k text at to t le s opens))
-  choice_back to le (scaled e x) w k t f s = absurd (never (begins_so (scaled e x) 99 w k text at to t le s opens))
-  choice_back to le (on_day d x) w k t f s = absurd (never (begins_so (on_day d x) 99 w k text at to t le s opens))
-  choice_back to le (when e x) w k t f s = absurd (never (begins_so (when e x) 99 w k text at to t le s opens))
-  choice_back to le (by_day d x) w k t f s = absurd (never (begins_so (by_day d x) 99 w k text at to t le s opens))
-
-  pub choice_as : {to : ℕ} {p : Unit {0} × (Contract × Contract)} → Took NoDigit ChoiceParts text at to p → Took NoDigit Text text at to (choice_make p)
-  choice_as {to} {p} t = took_as NoDigit ChoiceParts Text choice_make choice_sound text at to (choice_back to t.forward) p t
-
-  pub choice_stops : {to : ℕ} → Stops NoDigit ChoiceParts text at to → Stops NoDigit Text text at to
-  choice_stops {to} t = stops_as NoDigit ChoiceParts Text choice_make choice_sound text at to (choice_back to t.forward) t
+  pub choice_stops : {to : ℕ} → Stops NoDigit (PairText (codes "choice(")) text at to → Stops NoDigit Text text at to
+  choice_stops {to} t = stops_as NoDigit (PairText (codes "choice(")) Text (λ p. choice p.0 p.1) (λ _ _ h. h) text at to (choice_back to t.forward) t
 
 -- one or the other by a figure
 module _ (text : List ℕ) (at : ℕ) (opens : byte_at text at ≡ 105) where
@@ -213,15 +196,15 @@ module _ (text : List ℕ) (at : ℕ) (opens : byte_at text at ≡ 105) where
 
   either_back : (to : ℕ) → at ≤ to → (y : Contract) (w k : List ℕ) → Text y w → NoDigit k → SameBytes (w ++ k) text at to → (p : Unit {0} × (Figure × (Unit {0} × (Contract × (Unit {0} × Contract))))) × EitherParts p w × (either_make p ≡ y)
   either_back to le (either e x z) w k t f s = ((tt, (e, (tt, (x, (tt, z))))), then_map (λ _ q. q) (with_end (FigureText e) (Text x then exactly " else " then Text z) 32 (codes "then ")) w t, refl)
-  either_back to le nothing w k t f s = absurd (never (begins_so nothing 105 w k text at to t le s opens))
-  either_back to le (pays j a) w k t f s = absurd (never (begins_so (pays j a) 105 w k text at to t le s opens))
-  either_back to le (turned x) w k t f s = absurd (never (begins_so (turned x) 105 w k text at to t le s opens))
-  either_back to le (both x z) w k t f s = absurd (never (begins_so (both x z) 105 w k text at to t le s opens))
-  either_back to le (choice x z) w k t f s = absurd (never (begins_so (choice x z) 105 w k text at to t le s opens))
-  either_back to le (scaled e x) w k t f s = absurd (never (begins_so (scaled e x) 105 w k text at to t le s opens))
-  either_back to le (on_day d x) w k t f s = absurd (never (begins_so (on_day d x) 105 w k text at to t le s opens))
-  either_back to le (when e x) w k t f s = absurd (never (begins_so (when e x) 105 w k text at to t le s opens))
-  either_back to le (by_day d x) w k t f s = absurd (never (begins_so (by_day d x) 105 w k text at to t le s opens))
+  either_back to le nothing w k t f s = absurd (false≢true (begins_so nothing 105 w k text at to t le s opens))
+  either_back to le (pays j a) w k t f s = absurd (false≢true (begins_so (pays j a) 105 w k text at to t le s opens))
+  either_back to le (turned x) w k t f s = absurd (false≢true (begins_so (turned x) 105 w k text at to t le s opens))
+  either_back to le (both x z) w k t f s = absurd (false≢true (begins_so (both x z) 105 w k text at to t le s opens))
+  either_back to le (choice x z) w k t f s = absurd (false≢true (begins_so (choice x z) 105 w k text at to t le s opens))
+  either_back to le (scaled e x) w k t f s = absurd (false≢true (begins_so (scaled e x) 105 w k text at to t le s opens))
+  either_back to le (on_day d x) w k t f s = absurd (false≢true (begins_so (on_day d x) 105 w k text at to t le s opens))
+  either_back to le (when e x) w k t f s = absurd (false≢true (begins_so (when e x) 105 w k text at to t le s opens))
+  either_back to le (by_day d x) w k t f s = absurd (false≢true (begins_so (by_day d x) 105 w k text at to t le s opens))
 
   pub either_as : {to : ℕ} {p : Unit {0} × (Figure × (Unit {0} × (Contract × (Unit {0} × Contract))))} → Took NoDigit EitherParts text at to p → Took NoDigit Text text at to (either_make p)
   either_as {to} {p} t = took_as NoDigit EitherParts Text either_make either_sound text at to (either_back to t.forward) p t
@@ -271,15 +254,15 @@ module _ (text : List ℕ) (at : ℕ) (opens : byte_at text at ≡ 111) where
 
   on_back : (to : ℕ) → at ≤ to → (y : Contract) (w k : List ℕ) → Text y w → NoDigit k → SameBytes (w ++ k) text at to → (p : Unit {0} × (ℕ × Contract)) × OnParts p w × (on_make p ≡ y)
   on_back to le (on_day d x) w k t f s = ((tt, (d, x)), then_map (λ _ q. q) then_left w t, refl)
-  on_back to le nothing w k t f s = absurd (never (begins_so nothing 111 w k text at to t le s opens))
-  on_back to le (pays j a) w k t f s = absurd (never (begins_so (pays j a) 111 w k text at to t le s opens))
-  on_back to le (turned x) w k t f s = absurd (never (begins_so (turned x) 111 w k text at to t le s opens))
-  on_back to le (both x z) w k t f s = absurd (never (begins_so (both x z) 111 w k text at to t le s opens))
-  on_back to le (choice x z) w k t f s = absurd (never (begins_so (choice x z) 111 w k text at to t le s opens))
-  on_back to le (either e x z) w k t f s = absurd (never (begins_so (either e x z) 111 w k text at to t le s opens))
-  on_back to le (scaled e x) w k t f s = absurd (never (begins_so (scaled e x) 111 w k text at to t le s opens))
-  on_back to le (when e x) w k t f s = absurd (never (begins_so (when e x) 111 w k text at to t le s opens))
-  on_back to le (by_day d x) w k t f s = absurd (never (begins_so (by_day d x) 111 w k text at to t le s opens))
+  on_back to le nothing w k t f s = absurd (false≢true (begins_so nothing 111 w k text at to t le s opens))
+  on_back to le (pays j a) w k t f s = absurd (false≢true (begins_so (pays j a) 111 w k text at to t le s opens))
+  on_back to le (turned x) w k t f s = absurd (false≢true (begins_so (turned x) 111 w k text at to t le s opens))
+  on_back to le (both x z) w k t f s = absurd (false≢true (begins_so (both x z) 111 w k text at to t le s opens))
+  on_back to le (choice x z) w k t f s = absurd (false≢true (begins_so (choice x z) 111 w k text at to t le s opens))
+  on_back to le (either e x z) w k t f s = absurd (false≢true (begins_so (either e x z) 111 w k text at to t le s opens))
+  on_back to le (scaled e x) w k t f s = absurd (false≢true (begins_so (scaled e x) 111 w k text at to t le s opens))
+  on_back to le (when e x) w k t f s = absurd (false≢true (begins_so (when e x) 111 w k text at to t le s opens))
+  on_back to le (by_day d x) w k t f s = absurd (false≢true (begins_so (by_day d x) 111 w k text at to t le s opens))
 
   pub on_as : {to : ℕ} {p : Unit {0} × (ℕ × Contract)} → Took NoDigit OnParts text at to p → Took NoDigit Text text at to (on_make p)
   on_as {to} {p} t = took_as NoDigit OnParts Text on_make on_sound text at to (on_back to t.forward) p t
@@ -300,15 +283,15 @@ module _ (text : List ℕ) (at : ℕ) (opens : byte_at text at ≡ 119) where
 
   when_back : (to : ℕ) → at ≤ to → (y : Contract) (w k : List ℕ) → Text y w → NoDigit k → SameBytes (w ++ k) text at to → (p : Unit {0} × (Figure × (Unit {0} × Contract))) × WhenParts p w × (when_make p ≡ y)
   when_back to le (when e x) w k t f s = ((tt, (e, (tt, x))), then_map (λ _ q. q) (with_end (FigureText e) (Text x) 58 (codes " ")) w t, refl)
-  when_back to le nothing w k t f s = absurd (never (begins_so nothing 119 w k text at to t le s opens))
-  when_back to le (pays j a) w k t f s = absurd (never (begins_so (pays j a) 119 w k text at to t le s opens))
-  when_back to le (turned x) w k t f s = absurd (never (begins_so (turned x) 119 w k text at to t le s opens))
-  when_back to le (both x z) w k t f s = absurd (never (begins_so (both x z) 119 w k text at to t le s opens))
-  when_back to le (choice x z) w k t f s = absurd (never (begins_so (choice x z) 119 w k text at to t le s opens))
-  when_back to le (either e x z) w k t f s = absurd (never (begins_so (either e x z) 119 w k text at to t le s opens))
-  when_back to le (scaled e x) w k t f s = absurd (never (begins_so (scaled e x) 119 w k text at to t le s opens))
-  when_back to le (on_day d x) w k t f s = absurd (never (begins_so (on_day d x) 119 w k text at to t le s opens))
-  when_back to le (by_day d x) w k t f s = absurd (never (begins_so (by_day d x) 119 w k text at to t le s opens))
+  when_back to le nothing w k t f s = absurd (false≢true (begins_so nothing 119 w k text at to t le s opens))
+  when_back to le (pays j a) w k t f s = absurd (false≢true (begins_so (pays j a) 119 w k text at to t le s opens))
+  when_back to le (turned x) w k t f s = absurd (false≢true (begins_so (turned x) 119 w k text at to t le s opens))
+  when_back to le (both x z) w k t f s = absurd (false≢true (begins_so (both x z) 119 w k text at to t le s opens))
+  when_back to le (choice x z) w k t f s = absurd (false≢true (begins_so (choice x z) 119 w k text at to t le s opens))
+  when_back to le (either e x z) w k t f s = absurd (false≢true (begins_so (either e x z) 119 w k text at to t le s opens))
+  when_back to le (scaled e x) w k t f s = absurd (false≢true (begins_so (scaled e x) 119 w k text at to t le s opens))
+  when_back to le (on_day d x) w k t f s = absurd (false≢true (begins_so (on_day d x) 119 w k text at to t le s opens))
+  when_back to le (by_day d x) w k t f s = absurd (false≢true (begins_so (by_day d x) 119 w k text at to t le s opens))
 
   pub when_as : {to : ℕ} {p : Unit {0} × (Figure × (Unit {0} × Contract))} → Took NoDigit WhenParts text at to p → Took NoDigit Text text at to (when_make p)
   when_as {to} {p} t = took_as NoDigit WhenParts Text when_make when_sound text at to (when_back to t.forward) p t
@@ -329,18 +312,18 @@ module _ (text : List ℕ) (at : ℕ) (opens : (byte_at text at ≡ 98) × (byte
 
   by_back : (to : ℕ) → at + 1 ≤ to → (y : Contract) (w k : List ℕ) → Text y w → NoDigit k → SameBytes (w ++ k) text at to → (p : Unit {0} × (ℕ × Contract)) × ByParts p w × (by_make p ≡ y)
   by_back to le (by_day d x) w k t f s = ((tt, (d, x)), then_map (λ _ q. q) then_left w t, refl)
-  by_back to le nothing w k t f s = absurd (never (begins_so nothing 98 w k text at to t (omega arith) s opens.0))
-  by_back to le (pays j a) w k t f s = absurd (never (begins_so (pays j a) 98 w k text at to t (omega arith) s opens.0))
-  by_back to le (turned x) w k t f s = absurd (never (begins_so (turned x) 98 w k text at to t (omega arith) s opens.0))
+  by_back to le nothing w k t f s = absurd (false≢true (begins_so nothing 98 w k text at to t (omega arith) s opens.0))
+  by_back to le (pays j a) w k t f s = absurd (false≢true (begins_so (pays j a) 98 w k text at to t (omega arith) s opens.0))
+  by_back to le (turned x) w k t f s = absurd (false≢true (begins_so (turned x) 98 w k text at to t (omega arith) s opens.0))
   by_back to le (both x z) w k t f s =
       let second = s 1 le ∙ opens.1 in
       let other = eqb-true (byte_at (w ++ k) 1) 111 (begins_so (both x z) 98 w k text at to t (omega arith) s opens.0) in
       absurd (omega arith)
-  by_back to le (choice x z) w k t f s = absurd (never (begins_so (choice x z) 98 w k text at to t (omega arith) s opens.0))
-  by_back to le (either e x z) w k t f s = absurd (never (begins_so (either e x z) 98 w k text at to t (omega arith) s opens.0))
-  by_back to le (scaled e x) w k t f s = absurd (never (begins_so (scaled e x) 98 w k text at to t (omega arith) s opens.0))
-  by_back to le (on_day d x) w k t f s = absurd (never (begins_so (on_day d x) 98 w k text at to t (omega arith) s opens.0))
-  by_back to le (when e x) w k t f s = absurd (never (begins_so (when e x) 98 w k text at to t (omega arith) s opens.0))
+  by_back to le (choice x z) w k t f s = absurd (false≢true (begins_so (choice x z) 98 w k text at to t (omega arith) s opens.0))
+  by_back to le (either e x z) w k t f s = absurd (false≢true (begins_so (either e x z) 98 w k text at to t (omega arith) s opens.0))
+  by_back to le (scaled e x) w k t f s = absurd (false≢true (begins_so (scaled e x) 98 w k text at to t (omega arith) s opens.0))
+  by_back to le (on_day d x) w k t f s = absurd (false≢true (begins_so (on_day d x) 98 w k text at to t (omega arith) s opens.0))
+  by_back to le (when e x) w k t f s = absurd (false≢true (begins_so (when e x) 98 w k text at to t (omega arith) s opens.0))
 
   pub by_as : {to : ℕ} {p : Unit {0} × (ℕ × Contract)} → at + 1 ≤ to → Took NoDigit ByParts text at to p → Took NoDigit Text text at to (by_make p)
   by_as {to} {p} past t = took_as NoDigit ByParts Text by_make by_sound text at to (by_back to past) p t
@@ -348,16 +331,32 @@ module _ (text : List ℕ) (at : ℕ) (opens : (byte_at text at ≡ 98) × (byte
   pub by_stops : {to : ℕ} → at + 1 ≤ to → Stops NoDigit ByParts text at to → Stops NoDigit Text text at to
   by_stops {to} past t = stops_as NoDigit ByParts Text by_make by_sound text at to (by_back to past) t
 
--- the rest of a pair
-abbrev pub PairParts : Contract × (Unit {0} × (Contract × Unit {0})) → Language
-PairParts = Pair Text (Pair (Word (codes ", ")) (Pair Text (Word (codes ")"))))
+-- a pair behind a word
+abbrev pub PairParts : List ℕ → Unit {0} × (Contract × (Unit {0} × (Contract × Unit {0}))) → Language
+PairParts name = Pair (Word name) (Pair Text (Pair (Word (codes ", ")) (Pair Text (Word (codes ")")))))
 
-module _ {text : List ℕ} {at to : ℕ} where
-  pub pair_as : {p : Contract × (Unit {0} × (Contract × Unit {0}))} → Took NoDigit PairParts text at to p → Took NoDigit PairRest text at to (p.0, p.1.1.0)
-  pair_as {p} t = took_as NoDigit PairParts PairRest (λ p. (p.0, p.1.1.0)) (λ _ _ h. h) text at to (λ y w k h f s. ((y.0, (tt, (y.1, tt))), h, refl)) p t
+module _ {text name : List ℕ} {at to : ℕ} where
+  pub pair_as : {p : Unit {0} × (Contract × (Unit {0} × (Contract × Unit {0})))} → Took NoDigit (PairParts name) text at to p → Took NoDigit (PairText name) text at to (p.1.0, p.1.1.1.0)
+  pair_as {p} t = took_as NoDigit (PairParts name) (PairText name) (λ p. (p.1.0, p.1.1.1.0)) (λ _ _ h. h) text at to (λ y w k h f s. ((tt, (y.0, (tt, (y.1, tt)))), h, refl)) p t
 
-  pub pair_stops : Stops NoDigit PairParts text at to → Stops NoDigit PairRest text at to
-  pair_stops t = stops_as NoDigit PairParts PairRest (λ p. (p.0, p.1.1.0)) (λ _ _ h. h) text at to (λ y w k h f s. ((y.0, (tt, (y.1, tt))), h, refl)) t
+  pub pair_stops : Stops NoDigit (PairParts name) text at to → Stops NoDigit (PairText name) text at to
+  pair_stops t = stops_as NoDigit (PairParts name) (PairText name) (λ p. (p.1.0, p.1.1.1.0)) (λ _ _ h. h) text at to (λ y w k h f s. ((tt, (y.0, (tt, (y.1, tt)))), h, refl)) t
+
+-- one that was read, and one whose first byte stands there, goes beyond that byte
+module _ {text s : List ℕ} {at to c : ℕ} where
+  pub pair_long : {p : Contract × Contract} → Took NoDigit (PairText (c ∷ s)) text at to p → at + 1 ≤ to
+  pair_long t =
+      let long = length-between text at to t.within in
+      let whole = ap length (sym t.taken.word.4) ∙ length-append t.taken.word.0 t.taken.word.1 in
+      let word = ap length t.taken.word.2 in
+      omega arith
+
+  pub pair_past : byte_at text at ≡ c → Stops NoDigit (PairText (c ∷ s)) text at to → at + 1 ≤ to
+  pair_past e t =
+      let rest : List ℕ = codes "nothing, nothing)" in
+      let pair : PairText (c ∷ s) (nothing, nothing) (byte_at text at ∷ (s ++ rest)) = (c ∷ s, rest, refl, (codes "nothing", codes ", nothing)", refl, (codes ", ", codes "nothing)", refl, (codes "nothing", codes ")", refl, refl, refl), refl), refl), ap (λ z. z ∷ (s ++ rest)) (sym e)) in
+      let past = stops_past NoDigit (PairText (c ∷ s)) text at to t (nothing, nothing) (s ++ rest) [] pair refl in
+      omega arith
 
 -- a day, and what stands behind it
 module _ {text : List ℕ} {at to : ℕ} where
@@ -366,3 +365,10 @@ module _ {text : List ℕ} {at to : ℕ} where
 
   pub day_colon_stops : Stops Any (Pair Number (Word (codes ": "))) text at to → Stops Any DayColon text at to
   day_colon_stops t = stops_as Any (Pair Number (Word (codes ": "))) DayColon (λ p. p.0) (λ _ _ h. h) text at to (λ y w k h f s. ((y, tt), h, refl)) t
+
+-- a text of each
+pub a_text : HasOne Text
+a_text = record { one = nothing; text = codes "nothing"; is = refl }
+
+pub a_day : HasOne DayColon
+a_day = record { one = 0; text = codes "0: "; is = (codes "0", codes ": ", some_number, refl, refl) }

@@ -1,13 +1,13 @@
 -- What the readers of figures promise. Assumes nothing.
+use Rattle.std.proofs.lemmas.Bool.{false≢true}
 use Rattle.std.proofs.Common.{◌≡◌, ℕ, ◌+◌, ◌<◌, ◌≤◌, Bool, true, false, cond, ◌||◌, eqb, List, [], ◌∷◌, ◌++◌, length, ℤ, pos, negsuc, codes, sym, refl, ap, ◌∙◌, inl, inr, append_assoc, arith, eqb-true}
 use Rattle.deals.specs.Contract.{Figure, fixed, rate, day, plus, minus, times, most, less}
 use Rattle.texts.specs.Text.{Language, exactly, ◌then◌, digit, Number, Amount, FigureText}
 use Rattle.texts.specs.Reading.{byte_at, Any, NoDigit, Word, Took, Stops}
 use Rattle.texts.specs.Figures.{Ended, RateEnding, Operator, add, subtract, multiply, compare, operator_byte, OperatorText, applied}
 use Rattle.texts.proofs.OneWord.{byte_took, byte_stops}
-use Rattle.texts.proofs.Parts.{Pair, Follows, by_word, took_as, stops_as}
+use Rattle.texts.proofs.Parts.{Pair, HasOne, Follows, by_word, took_as, stops_as}
 use Rattle.texts.proofs.Thens.{then_right, then_left, then_map, cut, glue, read_so, spelt_so}
-use Rattle.texts.proofs.Numerals.{clash}
 use Rattle.texts.proofs.RateEnd.{number_digit, SameBytes, at_first}
 
 -- what begins with a word has its bytes
@@ -43,9 +43,6 @@ figure_starts (less e f) w k t = ap (λ z. eqb (byte_at z 0) 40) (led (codes "("
 ended_starts : (e : Figure) (end : ℕ) (w k : List ℕ) → Ended end e w → starts e (byte_at (w ++ k) 0) ≡ true
 ended_starts e end w k (a, b, t, p, q) = ap (λ z. starts e (byte_at z 0)) (ap (λ z. z ++ k) (sym q) ∙ append_assoc a b k) ∙ figure_starts e a (b ++ k) t
 
-pub never : false ≡ true → ⊥
-never e = clash true refl (sym e)
-
 -- a figure that stands where the text has this byte begins with it
 begins_so : (e : Figure) (end b : ℕ) (w k text : List ℕ) (at to : ℕ) → Ended end e w → at ≤ to → SameBytes (w ++ k) text at to → byte_at text at ≡ b → starts e b ≡ true
 begins_so e end b w k text at to t le s opens = ap (starts e) (sym (at_first (w ++ k) text at to le s ∙ opens)) ∙ ended_starts e end w k t
@@ -54,8 +51,21 @@ begins_so e end b w k text at to t le s opens = ap (starts e) (sym (at_first (w 
 pub some_number : Number 0 (48 ∷ [])
 some_number = record { some = omega arith; plain = refl; lead = λ _. refl; worth = refl }
 
-pub some_figure : (end : ℕ) → Ended end (fixed (pos 0)) (48 ∷ end ∷ [])
-some_figure end = (48 ∷ [], end ∷ [], some_number, refl, refl)
+-- a text of each
+pub a_number : HasOne Number
+a_number = record { one = 0; text = codes "0"; is = some_number }
+
+pub an_amount : HasOne Amount
+an_amount = record { one = pos 0; text = codes "0"; is = some_number }
+
+pub a_figure : {end : ℕ} → HasOne (Ended end)
+a_figure {end} = record { one = fixed (pos 0); text = 48 ∷ end ∷ []; is = (codes "0", end ∷ [], some_number, refl, refl) }
+
+pub an_operator : HasOne OperatorText
+an_operator = record { one = add; text = codes "+"; is = refl }
+
+pub a_rate_end : {end : ℕ} → HasOne (RateEnding end)
+a_rate_end {end} = record { one = 0; text = end ∷ []; is = inr (refl, refl) }
 
 -- what stands behind a rate's k is no digit
 pub by_rate_end : {end : ℕ} → digit end ≡ false → Follows NoDigit NoDigit (RateEnding end)
@@ -103,6 +113,9 @@ plain_operator compare = refl
 pub by_operator : (o : Operator) {Q : Language} (w k : List ℕ) → (OperatorText o then Q) w → NoDigit (w ++ k)
 by_operator o w k d = by_word w k d (plain_operator o)
 
+pub by_operators : {B : Type 0} {G : Language} (N : B → Language) → Follows NoDigit G (Pair OperatorText N)
+by_operators N = record { so = λ y w k d g. by_operator y.0 w k d }
+
 -- a rate
 module _ (text : List ℕ) (at end : ℕ) (opens : byte_at text at ≡ 114) where
   abbrev pub RateParts : Unit {0} × (ℕ × ℕ) → Language
@@ -127,13 +140,13 @@ module _ (text : List ℕ) (at end : ℕ) (opens : byte_at text at ≡ 114) wher
   rate_back to le (rate j n) w k (a, b, inr t, e, q) f s =
       let d = then_right {R = Word (end ∷ []) tt} w (a, b, t.1, e, q) in
       ((tt, (j, n)), (d.0, d.1, d.2, (d.3.0, d.3.1, d.3.2, inr (t.0, d.3.3), d.3.4), d.4), refl)
-  rate_back to le (fixed a) w k t f s = absurd (never (begins_so (fixed a) end 114 w k text at to t le s opens))
-  rate_back to le day w k t f s = absurd (never (begins_so day end 114 w k text at to t le s opens))
-  rate_back to le (plus e g) w k t f s = absurd (never (begins_so (plus e g) end 114 w k text at to t le s opens))
-  rate_back to le (minus e g) w k t f s = absurd (never (begins_so (minus e g) end 114 w k text at to t le s opens))
-  rate_back to le (times e g) w k t f s = absurd (never (begins_so (times e g) end 114 w k text at to t le s opens))
-  rate_back to le (most e g) w k t f s = absurd (never (begins_so (most e g) end 114 w k text at to t le s opens))
-  rate_back to le (less e g) w k t f s = absurd (never (begins_so (less e g) end 114 w k text at to t le s opens))
+  rate_back to le (fixed a) w k t f s = absurd (false≢true (begins_so (fixed a) end 114 w k text at to t le s opens))
+  rate_back to le day w k t f s = absurd (false≢true (begins_so day end 114 w k text at to t le s opens))
+  rate_back to le (plus e g) w k t f s = absurd (false≢true (begins_so (plus e g) end 114 w k text at to t le s opens))
+  rate_back to le (minus e g) w k t f s = absurd (false≢true (begins_so (minus e g) end 114 w k text at to t le s opens))
+  rate_back to le (times e g) w k t f s = absurd (false≢true (begins_so (times e g) end 114 w k text at to t le s opens))
+  rate_back to le (most e g) w k t f s = absurd (false≢true (begins_so (most e g) end 114 w k text at to t le s opens))
+  rate_back to le (less e g) w k t f s = absurd (false≢true (begins_so (less e g) end 114 w k text at to t le s opens))
 
   pub rate_as : {to : ℕ} {p : Unit {0} × (ℕ × ℕ)} → Took NoDigit RateParts text at to p → Took NoDigit (Ended end) text at to (rate_make p)
   rate_as {to} {p} t = took_as NoDigit RateParts (Ended end) rate_make rate_sound text at to (rate_back to t.forward) p t
@@ -154,13 +167,13 @@ module _ (text : List ℕ) (at end : ℕ) (opens : byte_at text at ≡ 100) wher
 
   day_back : (to : ℕ) → at ≤ to → (y : Figure) (w k : List ℕ) → Ended end y w → NoDigit k → SameBytes (w ++ k) text at to → (p : Unit {0} × Unit {0}) × DayParts p w × (day_make p ≡ y)
   day_back to le day w k t f s = ((tt, tt), t, refl)
-  day_back to le (fixed a) w k t f s = absurd (never (begins_so (fixed a) end 100 w k text at to t le s opens))
-  day_back to le (rate j n) w k t f s = absurd (never (begins_so (rate j n) end 100 w k text at to t le s opens))
-  day_back to le (plus e g) w k t f s = absurd (never (begins_so (plus e g) end 100 w k text at to t le s opens))
-  day_back to le (minus e g) w k t f s = absurd (never (begins_so (minus e g) end 100 w k text at to t le s opens))
-  day_back to le (times e g) w k t f s = absurd (never (begins_so (times e g) end 100 w k text at to t le s opens))
-  day_back to le (most e g) w k t f s = absurd (never (begins_so (most e g) end 100 w k text at to t le s opens))
-  day_back to le (less e g) w k t f s = absurd (never (begins_so (less e g) end 100 w k text at to t le s opens))
+  day_back to le (fixed a) w k t f s = absurd (false≢true (begins_so (fixed a) end 100 w k text at to t le s opens))
+  day_back to le (rate j n) w k t f s = absurd (false≢true (begins_so (rate j n) end 100 w k text at to t le s opens))
+  day_back to le (plus e g) w k t f s = absurd (false≢true (begins_so (plus e g) end 100 w k text at to t le s opens))
+  day_back to le (minus e g) w k t f s = absurd (false≢true (begins_so (minus e g) end 100 w k text at to t le s opens))
+  day_back to le (times e g) w k t f s = absurd (false≢true (begins_so (times e g) end 100 w k text at to t le s opens))
+  day_back to le (most e g) w k t f s = absurd (false≢true (begins_so (most e g) end 100 w k text at to t le s opens))
+  day_back to le (less e g) w k t f s = absurd (false≢true (begins_so (less e g) end 100 w k text at to t le s opens))
 
   pub day_as : {to : ℕ} {p : Unit {0} × Unit {0}} → Took NoDigit DayParts text at to p → Took NoDigit (Ended end) text at to (day_make p)
   day_as {to} {p} t = took_as NoDigit DayParts (Ended end) day_make day_sound text at to (day_back to t.forward) p t
@@ -208,13 +221,13 @@ module _ (text : List ℕ) (at end : ℕ) (opens : byte_at text at ≡ 109) wher
 
   larger_back : (to : ℕ) → at ≤ to → (y : Figure) (w k : List ℕ) → Ended end y w → NoDigit k → SameBytes (w ++ k) text at to → (p : Unit {0} × (Figure × (Unit {0} × (Figure × Unit {0})))) × LargerParts p w × (larger_make p ≡ y)
   larger_back to le (most e g) w k t f s = ((tt, (e, (tt, (g, tt)))), read_so (FigureText e) (FigureText g) (codes "max(") (32 ∷ []) 44 end w t, refl)
-  larger_back to le (fixed a) w k t f s = absurd (never (begins_so (fixed a) end 109 w k text at to t le s opens))
-  larger_back to le (rate j n) w k t f s = absurd (never (begins_so (rate j n) end 109 w k text at to t le s opens))
-  larger_back to le day w k t f s = absurd (never (begins_so day end 109 w k text at to t le s opens))
-  larger_back to le (plus e g) w k t f s = absurd (never (begins_so (plus e g) end 109 w k text at to t le s opens))
-  larger_back to le (minus e g) w k t f s = absurd (never (begins_so (minus e g) end 109 w k text at to t le s opens))
-  larger_back to le (times e g) w k t f s = absurd (never (begins_so (times e g) end 109 w k text at to t le s opens))
-  larger_back to le (less e g) w k t f s = absurd (never (begins_so (less e g) end 109 w k text at to t le s opens))
+  larger_back to le (fixed a) w k t f s = absurd (false≢true (begins_so (fixed a) end 109 w k text at to t le s opens))
+  larger_back to le (rate j n) w k t f s = absurd (false≢true (begins_so (rate j n) end 109 w k text at to t le s opens))
+  larger_back to le day w k t f s = absurd (false≢true (begins_so day end 109 w k text at to t le s opens))
+  larger_back to le (plus e g) w k t f s = absurd (false≢true (begins_so (plus e g) end 109 w k text at to t le s opens))
+  larger_back to le (minus e g) w k t f s = absurd (false≢true (begins_so (minus e g) end 109 w k text at to t le s opens))
+  larger_back to le (times e g) w k t f s = absurd (false≢true (begins_so (times e g) end 109 w k text at to t le s opens))
+  larger_back to le (less e g) w k t f s = absurd (false≢true (begins_so (less e g) end 109 w k text at to t le s opens))
 
   pub larger_as : {to : ℕ} {p : Unit {0} × (Figure × (Unit {0} × (Figure × Unit {0})))} → Took NoDigit LargerParts text at to p → Took NoDigit (Ended end) text at to (larger_make p)
   larger_as {to} {p} t = took_as NoDigit LargerParts (Ended end) larger_make larger_sound text at to (larger_back to t.forward) p t
@@ -259,10 +272,10 @@ module _ (text : List ℕ) (at end : ℕ) (opens : byte_at text at ≡ 40) where
   bracket_back to le (minus e g) w k t f s = ((tt, (e, (subtract, (tt, (g, tt))))), bracketed e g 45 end w t, refl)
   bracket_back to le (times e g) w k t f s = ((tt, (e, (multiply, (tt, (g, tt))))), bracketed e g 42 end w t, refl)
   bracket_back to le (less e g) w k t f s = ((tt, (e, (compare, (tt, (g, tt))))), bracketed e g 60 end w t, refl)
-  bracket_back to le (fixed a) w k t f s = absurd (never (begins_so (fixed a) end 40 w k text at to t le s opens))
-  bracket_back to le (rate j n) w k t f s = absurd (never (begins_so (rate j n) end 40 w k text at to t le s opens))
-  bracket_back to le day w k t f s = absurd (never (begins_so day end 40 w k text at to t le s opens))
-  bracket_back to le (most e g) w k t f s = absurd (never (begins_so (most e g) end 40 w k text at to t le s opens))
+  bracket_back to le (fixed a) w k t f s = absurd (false≢true (begins_so (fixed a) end 40 w k text at to t le s opens))
+  bracket_back to le (rate j n) w k t f s = absurd (false≢true (begins_so (rate j n) end 40 w k text at to t le s opens))
+  bracket_back to le day w k t f s = absurd (false≢true (begins_so day end 40 w k text at to t le s opens))
+  bracket_back to le (most e g) w k t f s = absurd (false≢true (begins_so (most e g) end 40 w k text at to t le s opens))
 
   pub bracket_as : {to : ℕ} {p : Unit {0} × (Figure × (Operator × (Unit {0} × (Figure × Unit {0}))))} → Took NoDigit BracketParts text at to p → Took NoDigit (Ended end) text at to (bracket_make p)
   bracket_as {to} {p} t = took_as NoDigit BracketParts (Ended end) bracket_make bracket_sound text at to (bracket_back to t.forward) p t

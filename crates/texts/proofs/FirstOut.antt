@@ -1,5 +1,7 @@
 -- The first number out of range, as numbers are noted one by one. Assumes nothing.
-use Rattle.std.proofs.Common.{◌≡◌, ℕ, ◌<◌, ◌≤◌, List, [], ◌∷◌, ◌++◌, Some, None, Option, refl, inl, inr, arith, MatchOption}
+use Rattle.std.proofs.Common.{◌≡◌, ℕ, ◌<◌, ◌≤◌, List, [], ◌∷◌, ◌++◌, Some, None, Option, refl, inl, inr, sym, true, false, ◌⊎◌, arith, MatchOption}
+use Rattle.std.specs.Option.{is_some}
+use Rattle.std.proofs.lemmas.Bool.{false≢true}
 use Rattle.texts.specs.Reading.{capped}
 use Rattle.texts.specs.Bounds.{Numeral, InRange, FirstOut}
 
@@ -26,16 +28,14 @@ pub first_none : FirstOf None []
 unfolding InRange
 first_none = tt
 
-pub first_within : (first : Option ℕ) (ks : List Numeral) (place number limit n : ℕ) → first ≡ None → FirstOf first ks → number ≡ capped n → number < limit → limit < 18446744073709551616 →
-    FirstOf first (ks ++ record { place = place; limit = limit; value = n } ∷ [])
-first_within (Some p) ks place number limit n o h e l b = let z : ◌≡◌ {A = ℕ} 0 1 = cc in absurd (omega arith)
-first_within None ks place number limit n o h e l b = in_more ks (record { place = place; limit = limit; value = n }) h (omega arith)
-
-pub first_here : (first : Option ℕ) (ks : List Numeral) (place number limit n : ℕ) → first ≡ None → FirstOf first ks → number ≡ capped n → limit ≤ number →
+pub first_here : (first : Option ℕ) (ks : List Numeral) (place number limit n : ℕ) → is_some first ≡ false → FirstOf first ks → number ≡ capped n → limit ≤ number →
     FirstOut (ks ++ record { place = place; limit = limit; value = n } ∷ []) place
-first_here (Some p) ks place number limit n o h e l = let z : ◌≡◌ {A = ℕ} 0 1 = cc in absurd (omega arith)
+first_here (Some p) ks place number limit n o h e l = absurd (false≢true (sym o))
 first_here None ks place number limit n o h e l = out_here ks (record { place = place; limit = limit; value = n }) h (omega arith)
 
-pub first_before : (first : Option ℕ) (ks ms : List Numeral) → (first ≡ None → ⊥) → FirstOf first ks → FirstOf first (ks ++ ms)
-first_before None ks ms n h = absurd (n refl)
-first_before (Some p) ks ms n h = out_before ks ms p h
+-- one that is in range, or comes behind one that isn't, changes nothing
+pub first_kept : (first : Option ℕ) (ks : List Numeral) (place number limit n : ℕ) → (is_some first ≡ true) ⊎ (number < limit) → FirstOf first ks → number ≡ capped n → limit < 18446744073709551616 →
+    FirstOf first (ks ++ record { place = place; limit = limit; value = n } ∷ [])
+first_kept (Some p) ks place number limit n o h e b = out_before ks (record { place = place; limit = limit; value = n } ∷ []) p h
+first_kept None ks place number limit n (inl o) h e b = absurd (false≢true o)
+first_kept None ks place number limit n (inr l) h e b = in_more ks (record { place = place; limit = limit; value = n }) h (omega arith)

@@ -1,9 +1,8 @@
 -- The first words of nodes, and how long they are. Assumes nothing.
-use Rattle.std.proofs.Common.{◌≡◌, ℕ, zero, suc, ◌<◌, ◌≤◌, Bool, true, false, ◌&&◌, leb, List, ◌++◌, length, ℤ, nat_abs, Some, None, codes, refl, ap, ◌∙◌, arith, length-append}
+use Rattle.std.proofs.Common.{◌≡◌, ℕ, zero, suc, ◌<◌, ◌≤◌, List, ◌++◌, length, ℤ, nat_abs, Some, codes, arith, length-append}
 use Rattle.std.proofs.lemmas.Bool.{le-leb}
-use Rattle.deals.specs.Contract.{pick}
 use Rattle.texts.specs.Written.{written_number, written_amount, written_rate}
-use Rattle.texts.specs.Spelling.{first_word, day_word, number_held, between_word, scale_word, behind_word}
+use Rattle.texts.specs.Spelling.{first_word, day_word, between_word, scale_word, behind_word}
 use Rattle.texts.specs.declared.nodes.Node.{Node}
 use Rattle.texts.specs.declared.nodes.Node.TheVariants.{Nothing, Pays, Turned, Both, Choice, If, Of, On, When, By, Fixed, Rate, Day, Plus, Minus, Times, Max, Less}
 use Rattle.texts.proofs.Laying.{word_length, amount_length}
@@ -12,18 +11,8 @@ pub first_pays : (k : ℕ) (a : ℤ) → k < 18446744073709551616 → nat_abs a 
     first_word (Pays k a) ≡ Some (codes "pays " ++ (written_amount a ++ (codes " " ++ written_number k)))
 first_pays k a h l = rw (le-leb k 18446744073709551615 (omega arith), le-leb (nat_abs a) 9223372036854775807 l)
 
-pub first_lost : (k : ℕ) (a : ℤ) → leb (nat_abs a) 9223372036854775807 ≡ false → first_word (Pays k a) ≡ None
-first_lost k a e = ap (λ b. pick (number_held k && b) (Some (codes "pays " ++ (written_amount a ++ (codes " " ++ written_number k)))) None) e ∙ by (number_held k)
-  where
-    by : (b : Bool) → pick (b && false) (Some (codes "pays " ++ (written_amount a ++ (codes " " ++ written_number k)))) None ≡ None
-    by true = refl
-    by false = refl
-
 pub first_fixed : (a : ℤ) → nat_abs a ≤ 9223372036854775807 → first_word (Fixed a) ≡ Some (written_amount a)
 first_fixed a l = rw (le-leb (nat_abs a) 9223372036854775807 l)
-
-pub first_fixed_lost : (a : ℤ) → leb (nat_abs a) 9223372036854775807 ≡ false → first_word (Fixed a) ≡ None
-first_fixed_lost a e = ap (λ b. pick b (Some (written_amount a)) None) e
 
 pub first_rate : (k n : ℕ) → k < 18446744073709551616 → n < 18446744073709551616 → first_word (Rate k n) ≡ Some (written_rate k n)
 first_rate k n h l = rw (le-leb k 18446744073709551615 (omega arith), le-leb n 18446744073709551615 (omega arith))

@@ -1,8 +1,10 @@
 -- Bytes that are written one after the other. Assumes nothing.
-use Rattle.std.proofs.Common.{◌≡◌, ℕ, zero, suc, ◌+◌, ◌/◌, ◌%◌, ◌^◌, ◌<◌, ◌≤◌, List, [], ◌∷◌, ◌++◌, map, length, get_or, take, drop, set, ℤ, pos, negsuc, nat_abs, codes, sym, refl, ap, ◌∙◌, subst, arith, length-append, w64, SFits}
+use Rattle.std.proofs.Common.{◌≡◌, ℕ, zero, suc, ◌+◌, ◌^◌, ◌<◌, ◌≤◌, List, [], ◌∷◌, ◌++◌, length, get_or, take, drop, set, ℤ, pos, negsuc, nat_abs, codes, sym, refl, ap, ◌∙◌, subst, arith, length-append, w64, SFits}
 use Rattle.std.specs.Int.Digits.{digits_of}
-use Rattle.std.proofs.lemmas.Int.Digits.{digits_of_step, length-digits_of-le}
-use Rattle.std.proofs.lemmas.List.{take_more, set_past, length-map, map-append}
+use Rattle.std.specs.Fmt.{decimal, signed_decimal}
+use Rattle.std.proofs.lemmas.Fmt.{decimal_digit, decimal-digits_of}
+use Rattle.std.proofs.lemmas.Int.Digits.{length-digits_of-le}
+use Rattle.std.proofs.lemmas.List.{take_more, length-map}
 use Rattle.std.proofs.lemmas.List.Edits.{sets, sets-eq}
 use Rattle.texts.specs.Written.{written_number, written_amount, written_rate}
 use Rattle.texts.specs.Spelling.{laid, Put}
@@ -31,32 +33,18 @@ put_none a to = record { bytes = refl; behind = omega arith }
 pub put_more : (a b c word : List ℕ) (to i next end : ℕ) → i < length word → Put a b to (take i word) next → Put b c next (get_or word i 0 ∷ []) end → Put a c to (take (i + 1) word) end
 put_more a b c word to i next end l p q = subst (λ w. Put a c to w end) (sym (take_more word i 0 l)) (put_then p q)
 
-pub put_beyond : (a : List ℕ) (to b : ℕ) → length a ≤ to → Put a a to (b ∷ []) (to + 1)
-put_beyond a to b h = record { bytes = sym (set_past a to b h); behind = refl }
+-- numbers, as the library writes them
+pub decimal_written : (n : ℕ) → n < 18446744073709551616 → decimal n ≡ written_number n
+decimal_written zero h = decimal_digit 0 (omega arith)
+decimal_written (suc n) h = decimal-digits_of (suc n) (omega arith) (omega arith)
 
--- digits
-pub small_number : (n : ℕ) → n < 10 → written_number n ≡ (48 + n) ∷ []
-small_number zero h = refl
-small_number (suc n) h =
-    let none : suc n / 10 ≡ 0 = omega arith in
-    let same : suc n % 10 ≡ suc n = omega arith in
-    ap (map (λ d. 48 + d)) (digits_of_step 10 (suc n) (omega arith) (omega arith) ∙ ap (λ m. digits_of 10 m ++ suc n % 10 ∷ []) none ∙ ap (λ m. m ∷ []) same)
-
-shown_is : (n : ℕ) → 0 < n → written_number n ≡ map (λ d. 48 + d) (digits_of 10 n)
-shown_is zero h = absurd (omega arith)
-shown_is (suc n) h = refl
-
-pub large_number : (n : ℕ) → 10 ≤ n → written_number n ≡ written_number (n / 10) ++ ((48 + n % 10) ∷ [])
-large_number n h =
-    shown_is n (omega arith) ∙ ap (map (λ d. 48 + d)) (digits_of_step 10 n (omega arith) (omega arith))
-    ∙ map-append (λ d. 48 + d) (digits_of 10 (n / 10)) (n % 10 ∷ []) ∙ ap (λ w. w ++ ((48 + n % 10) ∷ [])) (sym (shown_is (n / 10) (omega arith)))
+pub signed_written : (a : ℤ) → nat_abs a < 18446744073709551616 → signed_decimal a ≡ written_amount a
+signed_written (pos n) h = decimal_written n h
+signed_written (negsuc n) h = ap (λ w. 45 ∷ w) (decimal_written (suc n) h)
 
 pub number_length : (n k : ℕ) → n < 10 ^ k → 1 ≤ k → length (written_number n) ≤ k
 number_length zero k h l = l
 number_length (suc n) k h l = subst (λ m. m ≤ k) (sym (length-map (digits_of 10 (suc n)) (λ d. 48 + d))) (length-digits_of-le 10 k (suc n) (omega arith) h)
-
-pub put_here : (a : List ℕ) (to b : ℕ) → Put a (set a to b) to (b ∷ []) (to + 1)
-put_here a to b = record { bytes = refl; behind = refl }
 
 pub word_length : (n : ℕ) → n < 18446744073709551616 → length (written_number n) ≤ 20
 word_length n h = number_length n 20 (omega arith) (omega arith)
@@ -65,16 +53,9 @@ pub amount_length : (a : ℤ) → nat_abs a < 18446744073709551616 → length (w
 amount_length (pos n) h = let l = word_length n h in omega arith
 amount_length (negsuc n) h = let l = word_length (suc n) h in omega arith
 
-rate_none : (k n : ℕ) → n ≡ 0 → written_rate k n ≡ codes "rate " ++ written_number k
-rate_none k zero e = refl
-rate_none k (suc n) e = absurd (omega arith)
-
 rate_some : (k n : ℕ) → (n ≡ 0 → ⊥) → written_rate k n ≡ codes "rate " ++ (written_number k ++ (codes " " ++ written_number n))
 rate_some k zero e = absurd (e refl)
 rate_some k (suc n) e = refl
-
-pub put_rate_none : {a b : List ℕ} {to next : ℕ} (k n : ℕ) → n ≡ 0 → Put a b to (codes "rate " ++ written_number k) next → Put a b to (written_rate k n) next
-put_rate_none {a} {b} {to} {next} k n e p = subst (λ w. Put a b to w next) (sym (rate_none k n e)) p
 
 pub put_rate_some : {a b : List ℕ} {to next : ℕ} (k n : ℕ) → (n ≡ 0 → ⊥) → Put a b to (codes "rate " ++ (written_number k ++ (codes " " ++ written_number n))) next → Put a b to (written_rate k n) next
 put_rate_some {a} {b} {to} {next} k n e p = subst (λ w. Put a b to w next) (sym (rate_some k n e)) p

@@ -9,8 +9,7 @@ mod ContractParts
 mod Whole
 mod Notes
 mod FirstOut
-mod NodeCases
-mod Standing
+pub mod Standing
 pub mod Ranged
 mod ThinNodes
 mod Laying
@@ -23,3 +22,4 @@ mod HasText
 pub mod OneContract
 mod OneReading
 pub mod Verdicts
+mod Mapped

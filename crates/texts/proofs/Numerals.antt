@@ -1,5 +1,5 @@
 -- What the reader of a number promises. Assumes nothing.
-use Rattle.std.proofs.Common.{◌≡◌, ℕ, zero, suc, pred, ◌+◌, ◌-◌, ◌*◌, ◌<◌, ◌≤◌, min, Bool, true, false, List, [], ◌∷◌, ◌++◌, length, get_or, ℤ, pos, negsuc, codes, sym, refl, ap, ◌∙◌, subst, append_assoc, arith}
+use Rattle.std.proofs.Common.{◌≡◌, ◌≢◌, ℕ, Some, None, Option, unwrap_or, MatchOption, zero, suc, pred, ◌+◌, ◌-◌, ◌*◌, ◌<◌, ◌≤◌, min, Bool, true, false, List, [], ◌∷◌, ◌++◌, length, get_or, ℤ, pos, negsuc, codes, sym, refl, ap, ◌∙◌, subst, append_assoc, arith}
 use Rattle.std.specs.List.{between}
 use Rattle.std.proofs.lemmas.List.{get_or_default}
 use Rattle.std.proofs.lemmas.List.Edits.{between_none, between_more, length-between, get_or-between}
@@ -216,3 +216,12 @@ module _ (text : List ℕ) (at to : ℕ) (m : byte_at text at ≡ 45) where
   minus_stops t =
       let both = stops_behind Any NoDigit (Word (codes "-")) Positive (λ _ _ _ _ _. tt) text at (at + 1) to tt (byte_took text at 45 m (omega arith)) t in
       stops_as NoDigit Below Amount make (λ _ _ h. h) text at to (λ y w k h f same. below y w k h f same both.forward) both
+
+-- the digit at a place, with 0 for none: it isn't above 0, or it is
+pub first_zero : (b : ℕ) (o : Option ℕ) → MatchOption o (digit b ≡ false) (λ d. (digit b ≡ true) × (b ≡ 48 + d)) → unwrap_or o 0 ≡ 0 → digit b ≡ true → b ≡ 48
+first_zero b None h z d = absurd (clash _ d h)
+first_zero b (Some n) h z d = omega (arith, h.1)
+
+pub first_above : (b : ℕ) (o : Option ℕ) → MatchOption o (digit b ≡ false) (λ d. (digit b ≡ true) × (b ≡ 48 + d)) → unwrap_or o 0 ≢ 0 → (digit b ≡ true) × (b ≢ 48)
+first_above b None h z = absurd (z refl)
+first_above b (Some n) h z = (h.0, λ e. z (omega (arith, h.1)))

@@ -1,21 +1,21 @@
 -- A text is one contract's at most: whatever text a contract has is read as it, and as nothing else. Assumes nothing.
+use Rattle.std.proofs.lemmas.Bool.{false≢true, cases_eq}
 use Rattle.std.proofs.Common.{◌≡◌, ℕ, suc, ◌+◌, ◌-◌, ◌<◌, ◌≤◌, true, false, eqb, ◌⊎◌, List, [], ◌∷◌, ◌++◌, length, ℤ, pos, negsuc, codes, sym, refl, ap, ◌∙◌, subst, inl, inr, append_assoc, arith, length-append}
 use Rattle.std.specs.List.{between}
 use Rattle.std.proofs.lemmas.List.{take_at, drop_at, take_all, get_or_past, append-nil}
 use Rattle.std.proofs.lemmas.List.Edits.{length-between}
-use Rattle.std.proofs.lemmas.Bool.{cases_eq}
 use Rattle.deals.specs.Contract.{Figure, fixed, rate, day, plus, minus, times, most, less, Contract, nothing, pays, turned, both, choice, either, scaled, on_day, when, by_day}
 use Rattle.texts.specs.Text.{Language, exactly, ◌then◌, digit, spelt, Number, Amount, FigureText, Text}
 use Rattle.texts.specs.Reading.{byte_at, Any, NoDigit, Word, Positive, Took}
 use Rattle.texts.specs.Figures.{Ended, RateEnding, Operator, add, subtract, multiply, compare, operator_byte, OperatorText, applied}
-use Rattle.texts.specs.Openings.{PairRest, DayColon}
+use Rattle.texts.specs.Openings.{PairText, DayColon}
 use Rattle.texts.specs.Written.{OneAtMost}
-use Rattle.texts.proofs.Parts.{Pair, Follows, free, by_word, by_end, then_took, calm_took, between_then, between_first, begins_byte}
+use Rattle.texts.proofs.Parts.{by_words, Pair, Follows, free, by_end, then_took, calm_took, between_then, between_first, begins_byte}
 use Rattle.texts.proofs.Thens.{then_left, then_right, then_map, with_end, read_so}
 use Rattle.texts.proofs.OneWord.{word_took}
 use Rattle.texts.proofs.Numerals.{clash, same_run, plain_took, minus_as}
 use Rattle.texts.proofs.RateEnd.{number_digit, end_took, space_took, n_as}
-use Rattle.texts.proofs.FigureParts.{starts, figure_starts, never, by_rate_end, by_operator, operator_took, bracketed, fixed_as, rate_as, day_as, larger_as, bracket_as}
+use Rattle.texts.proofs.FigureParts.{starts, figure_starts, by_rate_end, by_operator, operator_took, bracketed, fixed_as, rate_as, day_as, larger_as, bracket_as}
 use Rattle.texts.proofs.ContractParts.{nothing_as, pays_as, turned_as, both_as, choice_as, either_as, scaled_as, on_as, when_as, by_as, pair_as, day_as as colon-as, figure_head, figure_heads}
 
 -- every text of x in a longer one, with what may follow it behind it, is read as x
@@ -85,17 +85,9 @@ at_number n text a b h k f t = record {
 }
 
 at_positive : (n : ℕ) → At NoDigit Positive n
-at_positive n text a b h k f t = record {
-  forward = h;
-  within = k;
-  taken = record {
-    word = t;
-    only = λ y w r m g q.
-        let run = same_run (between a b text) w q.0 r (byte_at text b) t.plain f m.plain g (sym (append_assoc (between a b text) (byte_at text b ∷ []) q.0) ∙ q.1) in
-        let same : suc y ≡ suc n = sym m.worth ∙ ap (spelt 0) run ∙ t.worth in
-        (run, omega arith);
-  };
-}
+at_positive n text a b h k f t =
+    let taken = (at_number (suc n) text a b h k f t).taken in
+    record { forward = h; within = k; taken = record { word = t; only = λ y w r m g q. let one = taken.only (suc y) w r m g q in (one.0, omega (arith, one.1)) } }
 
 pub at_amount : (z : ℤ) → At NoDigit Amount z
 at_amount (pos n) text a b h k f t =
@@ -189,7 +181,7 @@ pub at_figure : (e : Figure) (end : ℕ) → digit end ≡ false → At NoDigit 
 at_figure (fixed z) end plain text a b h k f t =
     let s = figure_byte (fixed z) _ text a b h k t in
     fixed_as text a end
-    (λ e. never (ap (starts (fixed z)) (sym e) ∙ s), λ e. never (ap (starts (fixed z)) (sym e) ∙ s), λ e. never (ap (starts (fixed z)) (sym e) ∙ s), λ e. never (ap (starts (fixed z)) (sym e) ∙ s))
+    (λ e. false≢true (ap (starts (fixed z)) (sym e) ∙ s), λ e. false≢true (ap (starts (fixed z)) (sym e) ∙ s), λ e. false≢true (ap (starts (fixed z)) (sym e) ∙ s), λ e. false≢true (ap (starts (fixed z)) (sym e) ∙ s))
     (at_then no_digit_headed (by_end plain) (at_amount z) at_calm text a b h k f t)
 at_figure (rate j n) end plain text a b h k f t =
     let o = rate_open j n end (between a b text) t in
@@ -200,7 +192,7 @@ at_figure (most e g) end plain text a b h k f t =
     let o = read_so (FigureText e) (FigureText g) (codes "max(") (32 ∷ []) 44 end (between a b text) t in
     larger_as text a end (first_byte (codes "max(") _ text a b h k o).1
     (at_then any_headed free at_word
-    (at_then no_digit_headed (record { so = λ y w k d g. by_word w k d refl }) (at_figure e 44 refl)
+    (at_then no_digit_headed (by_words _ refl) (at_figure e 44 refl)
     (at_then any_headed free at_word (at_then no_digit_headed (by_end plain) (at_figure g 41 refl) at_calm))) text a b h k f o)
 at_figure (plus e g) end plain text a b h k f t = at_bracket end plain e g add (at_figure e 32 refl) (at_figure g 41 refl) text a b h k f (bracketed e g 43 end (between a b text) t)
 at_figure (minus e g) end plain text a b h k f t = at_bracket end plain e g subtract (at_figure e 32 refl) (at_figure g 41 refl) text a b h k f (bracketed e g 45 end (between a b text) t)
@@ -215,9 +207,9 @@ past_word text a b k t =
     let first = ap length t.2 in
     omega arith
 
-at_pair : (x y : Contract) → At NoDigit Text x → At NoDigit Text y → At NoDigit PairRest (x, y)
-at_pair x y p q text a b h k f t =
-    pair_as (at_then no_digit_headed (record { so = λ y w k d g. by_word w k d refl }) p (at_then any_headed free at_word (at_then no_digit_headed (by_end refl) q at_calm)) text a b h k f t)
+at_pair : (c : ℕ) (s : List ℕ) (x y : Contract) → At NoDigit Text x → At NoDigit Text y → At NoDigit (PairText (c ∷ s)) (x, y)
+at_pair c s x y p q text a b h k f t =
+    pair_as (at_then any_headed free at_word (at_then no_digit_headed (by_words _ refl) p (at_then any_headed free at_word (at_then no_digit_headed (by_end refl) q at_calm))) text a b h k f t)
 
 at_colon : (d : ℕ) → At Any DayColon d
 at_colon d text a b h k f t = colon-as (at_then no_digit_headed (by_end refl) (at_number d) at_word text a b h k f t)
@@ -227,42 +219,42 @@ at_text nothing text a b h k f t =
     nothing_as text a (sym (between_first text a b h k) ∙ ap (λ z. byte_at (z ++ byte_at text b ∷ []) 0) t) (at_calm text a b h k f t)
 at_text (pays j z) text a b h k f t =
     pays_as text a (first_byte (codes "pays ") _ text a b h k t).1
-    (at_then any_headed free at_word (at_then no_digit_headed (record { so = λ y w k d g. by_word w k d refl }) (at_amount z) (at_then any_headed free at_word (at_number j))) text a b h k f t)
+    (at_then any_headed free at_word (at_then no_digit_headed (by_words _ refl) (at_amount z) (at_then any_headed free at_word (at_number j))) text a b h k f t)
 at_text (turned x) text a b h k f t =
     turned_as text a (first_byte (codes "turned(") _ text a b h k t).1 (at_then any_headed free at_word (at_then no_digit_headed (by_end refl) (at_text x) at_calm) text a b h k f t)
 at_text (both x y) text a b h k f t =
     let past = past_word text a b k t in
-    both_as text a ((first_byte (codes "both(") _ text a b h k t).1, λ e. never (ap (λ n. eqb n 121) (sym (byte_of (codes "both(") _ text a b h k t 1 past).1) ∙ ap (λ n. eqb n 121) e)) past
-    (at_then any_headed free at_word (at_pair x y (at_text x) (at_text y)) text a b h k f t)
+    both_as text a ((first_byte (codes "both(") _ text a b h k t).1, λ e. false≢true (ap (λ n. eqb n 121) (sym (byte_of (codes "both(") _ text a b h k t 1 past).1) ∙ ap (λ n. eqb n 121) e)) past
+    (at_pair 98 (codes "oth(") x y (at_text x) (at_text y) text a b h k f t)
 at_text (choice x y) text a b h k f t =
-    choice_as text a (first_byte (codes "choice(") _ text a b h k t).1 (at_then any_headed free at_word (at_pair x y (at_text x) (at_text y)) text a b h k f t)
+    choice_as text a (first_byte (codes "choice(") _ text a b h k t).1 (at_pair 99 (codes "hoice(") x y (at_text x) (at_text y) text a b h k f t)
 at_text (either e x y) text a b h k f t =
     let o = then_map (λ _ q. q) (with_end (FigureText e) (Text x then exactly " else " then Text y) 32 (codes "then ")) (between a b text) t in
     either_as text a (first_byte (codes "if ") _ text a b h k t).1
     (at_then any_headed free at_word
-    (at_then no_digit_headed (record { so = λ y w k d g. by_word w k d refl }) (at_figure e 32 refl)
-    (at_then any_headed free at_word (at_then no_digit_headed (record { so = λ y w k d g. by_word w k d refl }) (at_text x) (at_then any_headed free at_word (at_text y))))) text a b h k f o)
+    (at_then no_digit_headed (by_words _ refl) (at_figure e 32 refl)
+    (at_then any_headed free at_word (at_then no_digit_headed (by_words _ refl) (at_text x) (at_then any_headed free at_word (at_text y))))) text a b h k f o)
 at_text (scaled e x) text a b h k f t =
     let s = figure_heads e (byte_at text a) (figure_byte e _ text a b h k t) in
     let o = with_end (FigureText e) (Text x) 32 (codes "of ") (between a b text) t in
     scaled_as text a (
-      λ e. never (ap figure_head (sym e) ∙ s),
-      λ e. never (ap figure_head (sym e) ∙ s),
-      λ e. never (ap figure_head (sym e) ∙ s),
-      λ e. never (ap figure_head (sym e) ∙ s),
-      λ e. never (ap figure_head (sym e) ∙ s),
-      λ e. never (ap figure_head (sym e) ∙ s),
-      λ e. never (ap figure_head (sym e) ∙ s),
-      λ e. never (ap figure_head (sym e) ∙ s),
+      λ e. false≢true (ap figure_head (sym e) ∙ s),
+      λ e. false≢true (ap figure_head (sym e) ∙ s),
+      λ e. false≢true (ap figure_head (sym e) ∙ s),
+      λ e. false≢true (ap figure_head (sym e) ∙ s),
+      λ e. false≢true (ap figure_head (sym e) ∙ s),
+      λ e. false≢true (ap figure_head (sym e) ∙ s),
+      λ e. false≢true (ap figure_head (sym e) ∙ s),
+      λ e. false≢true (ap figure_head (sym e) ∙ s),
     )
-    (at_then no_digit_headed (record { so = λ y w k d g. by_word w k d refl }) (at_figure e 32 refl) (at_then any_headed free at_word (at_text x)) text a b h k f o)
+    (at_then no_digit_headed (by_words _ refl) (at_figure e 32 refl) (at_then any_headed free at_word (at_text x)) text a b h k f o)
 at_text (on_day d x) text a b h k f t =
     on_as text a (first_byte (codes "on ") _ text a b h k t).1
     (at_then any_headed free at_word (at_then any_headed free (at_colon d) (at_text x)) text a b h k f (then_map (λ _ q. q) then_left (between a b text) t))
 at_text (when e x) text a b h k f t =
     let o = then_map (λ _ q. q) (with_end (FigureText e) (Text x) 58 (codes " ")) (between a b text) t in
     when_as text a (first_byte (codes "when ") _ text a b h k t).1
-    (at_then any_headed free at_word (at_then no_digit_headed (record { so = λ y w k d g. by_word w k d refl }) (at_figure e 58 refl) (at_then any_headed free at_word (at_text x))) text a b h k f o)
+    (at_then any_headed free at_word (at_then no_digit_headed (by_words _ refl) (at_figure e 58 refl) (at_then any_headed free at_word (at_text x))) text a b h k f o)
 at_text (by_day d x) text a b h k f t =
     let past = past_word text a b k t in
     by_as text a ((first_byte (codes "by ") _ text a b h k t).1, (byte_of (codes "by ") _ text a b h k t 1 past).1) past

@@ -1,6 +1,9 @@
 -- What the reader of a word promises. Assumes nothing.
-use Rattle.std.proofs.Common.{◌≡◌, ℕ, ◌+◌, ◌<◌, ◌≤◌, List, [], ◌∷◌, ◌++◌, length, get_or, take, drop, sym, refl, ap, ◌∙◌, append_assoc, arith, take-append-drop}
+use Rattle.std.proofs.Common.{◌≡◌, ℕ, true, false, Some, None, Option, unwrap_or, nat_eq, ◌+◌, ◌<◌, ◌≤◌, List, [], ◌∷◌, ◌++◌, length, get_or, take, drop, sym, refl, ap, ◌∙◌, append_assoc, arith, take-append-drop}
 use native.Mathlib.Decide.{dec_lt}
+use Rattle.std.specs.Option.{option_eq}
+use Rattle.std.proofs.lemmas.Bool.{false≢true, eqb-true}
+use Rattle.std.proofs.lemmas.Bool.Decides.{nat_tests}
 use Rattle.std.specs.List.{between}
 use Rattle.std.proofs.lemmas.List.{get_or_append_left, get_or_at, get_or_past, get_or_default, length-take-le}
 use Rattle.std.proofs.lemmas.List.Edits.{between_none, between_more}
@@ -49,3 +52,12 @@ byte_took text at b e small =
 
 pub byte_stops : (text : List ℕ) (at b : ℕ) → at ≤ length text → (byte_at text at ≡ b → ⊥) → Stops Any (Word (b ∷ [])) text at at
 byte_stops text at b h n = word_stops text (b ∷ []) at at 0 (omega arith) h (omega arith) (between_none text at) n
+
+-- the byte at a place is this one, or it isn't
+pub byte_is : (o : Option ℕ) (b : ℕ) {c : ℕ} → option_eq nat_eq o (Some b) ≡ true → unwrap_or o 256 ≡ c → c ≡ b
+byte_is None b t e = absurd (false≢true t)
+byte_is (Some n) b t e = sym e ∙ eqb-true n b t
+
+pub byte_not : (o : Option ℕ) (b : ℕ) {c : ℕ} → option_eq nat_eq o (Some b) ≡ false → unwrap_or o 256 ≡ c → b < 256 → c ≡ b → ⊥
+byte_not None b t e small s = omega arith
+byte_not (Some n) b t e small s = let same : n ≡ b = e ∙ s in grind (arith, nat_tests)

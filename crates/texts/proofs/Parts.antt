@@ -199,6 +199,9 @@ by_word w k d plain = ap (λ z. digit (byte_at (z ++ k) 0)) (sym d.4 ∙ ap (λ 
 pub by_end : {G : Language} {c : ℕ} {s : List ℕ} → digit c ≡ false → Follows NoDigit G (Word (c ∷ s))
 by_end plain = record { so = λ y w k e g. ap (λ z. digit (byte_at (z ++ k) 0)) e ∙ plain }
 
+pub by_words : {B : Type 0} {G : Language} {c : ℕ} {s : List ℕ} (N : B → Language) → digit c ≡ false → Follows NoDigit G (Pair (Word (c ∷ s)) N)
+by_words N plain = record { so = λ y w k d g. by_word w k d plain }
+
 -- the same, with what antt can tell left out
 module _ {A B : Type 0} {F G : Language} {L : A → Language} {N : B → Language} {text : List ℕ} {a b c : ℕ} {x : A} where
   pub then_took : {y : B} → Follows F G N → Took F L text a b x → Took G N text b c y → Took G (Pair L N) text a c (x, y)
@@ -207,9 +210,22 @@ module _ {A B : Type 0} {F G : Language} {L : A → Language} {N : B → Languag
   pub then_stops : Follows F G N → Took F L text a b x → Stops G N text b c → Stops G (Pair L N) text a c
   then_stops follows t r = stops_behind F G L N follows.so text a b c x t r
 
+-- some text of a language: of a word, and of two languages, one behind the other
+pub record HasOne {A : Type 0} (L : A → Language) : Type 0 where
+  pub one : A
+  pub text : List ℕ
+  pub is : L one text
+
+pub a_word : {s : List ℕ} → HasOne (Word s)
+a_word {s} = record { one = tt; text = s; is = refl }
+
+infixr 30 ◌also◌
+pub ◌also◌ : {A B : Type 0} {L : A → Language} {N : B → Language} → HasOne L → HasOne N → HasOne (Pair L N)
+p also q = record { one = (p.one, q.one); text = p.text ++ q.text; is = (p.text, q.text, p.is, q.is, refl) }
+
 pub stops_then : {A B : Type 0} {F G : Language} {L : A → Language} {N : B → Language} {text : List ℕ} {a b : ℕ} → Follows F G N →
-    (y : B) (w : List ℕ) → N y w → Stops F L text a b → Stops G (Pair L N) text a b
-stops_then {F = F} {G = G} {L = L} {N = N} {text = text} {a = a} {b = b} follows y w n r = stops_before F G L N follows.so text a b y w n r
+    HasOne N → Stops F L text a b → Stops G (Pair L N) text a b
+stops_then {F = F} {G = G} {L = L} {N = N} {text = text} {a = a} {b = b} follows n r = stops_before F G L N follows.so text a b n.one n.text n.is r
 
 -- what may follow a word may be anything, and so no digit too
 pub calm_took : {A : Type 0} {L : A → Language} {text : List ℕ} {a b : ℕ} {x : A} → Took Any L text a b x → Took NoDigit L text a b x

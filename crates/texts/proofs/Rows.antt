@@ -1,62 +1,46 @@
 -- What a tree holds after a node more, or another node in the place of one. Assumes nothing.
-use Rattle.std.proofs.Common.{◌≡◌, ℕ, ◌+◌, ◌<◌, ◌≤◌, min, List, [], ◌∷◌, ◌++◌, length, take, set, sym, refl, ap, ◌∙◌, subst, append_assoc, arith, length-append}
+use Rattle.std.proofs.Common.{◌≡◌, ℕ, ◌<◌, ◌≤◌, min, Ok, Err, Result, IsOk, OnOk, OnErr, List, [], ◌∷◌, ◌++◌, length, take, set, sym, refl, ap, ◌∙◌, subst, append_assoc, arith, length-append}
+use Rattle.arrayvec.specs.ArrayVec.{ArrayVec}
 use lib.Seq.{take-set-lt}
-use Rattle.std.proofs.lemmas.List.{take_more_set, set_at}
+use Rattle.std.proofs.lemmas.List.{take_all, take-append-le, length-take, set_at}
 use Rattle.deals.specs.Contract.{Figure}
 use Rattle.texts.specs.Figures.{Operator, add, subtract, multiply, compare, operator_node, applied}
 use Rattle.texts.specs.Nodes.{Holds, Grown, figure_nodes}
 use Rattle.texts.specs.declared.nodes.Node.{Node}
 use Rattle.texts.specs.declared.nodes.Tree.{Tree}
 
-pub push_room : (row : List Node) (count : ℕ) (node : Node) → length row ≡ 256 → count < 256 →
-    Grown (record { nodes = row; count = count }) (record { nodes = set row count node; count = count + 1 }) (node ∷ [])
-push_room row count node long room ns h =
-    let many = h.many in
-    let here : count ≡ length ns = omega arith in
-    let more : length (ns ++ node ∷ []) ≡ length ns + 1 = length-append ns (node ∷ []) in
-    let fits : length ns ≤ 256 = omega arith in
-    let inside : count < length row = omega arith in
-    let same : length (ns ++ node ∷ []) ≡ count + 1 = omega arith in
-    record {
-      many = omega arith;
-      all = λ few. ap (λ n. take n (set row count node)) same ∙ take_more_set row count node inside
-          ∙ ap (λ v. v ++ node ∷ []) (ap (λ n. take n row) here ∙ h.all fits);
-    }
+-- the first so many of a row with one more behind it, and with another in the place of one
+pub more_room : (most : ℕ) (held row : List Node) (node : Node) → held ≡ take most row → length held < most → held ++ node ∷ [] ≡ take most (row ++ node ∷ [])
+more_room most held row node is room =
+    let long = ap length is ∙ length-take most row in
+    let few : length row ≤ most = omega arith in
+    let fits : length (row ++ node ∷ []) ≤ most = omega (arith, length-append row (node ∷ [])) in
+    ap (λ v. v ++ node ∷ []) (is ∙ take_all most row few) ∙ sym (take_all most (row ++ node ∷ []) fits)
 
-pub push_full : (row : List Node) (count : ℕ) (node : Node) → 256 ≤ count → Grown (record { nodes = row; count = count }) (record { nodes = row; count = 257 }) (node ∷ [])
-push_full row count node full ns h =
-    let many = h.many in
-    let more : length (ns ++ node ∷ []) ≡ length ns + 1 = length-append ns (node ∷ []) in
-    record { many = omega arith; all = λ few. absurd (omega arith) }
+pub more_full : (most : ℕ) (held row : List Node) (node : Node) → held ≡ take most row → length held ≡ most → held ≡ take most (row ++ node ∷ [])
+more_full most held row node is full =
+    let long = ap length is ∙ length-take most row in
+    is ∙ sym (take-append-le most row (node ∷ []) (omega arith))
 
-abbrev Replaced : Tree → Tree → ℕ → Node → Type 0
-Replaced before after at node = (ns ms : List Node) (old : Node) → Holds before (ns ++ old ∷ ms) → at ≡ min (length ns) 257 → Holds after (ns ++ node ∷ ms)
+-- what `try_push` leaves
+pub pushed : {E : Type 0} (most : ℕ) (before after : ArrayVec Node) (row : List Node) (node : Node) (r : Result (Unit {0}) E) →
+    (IsOk r → length before.items < most) → OnOk r (after.items ≡ before.items ++ node ∷ []) → OnErr r (after ≡ before) → OnErr r (length before.items ≡ most) →
+    before.items ≡ take most row → after.items ≡ take most (row ++ node ∷ [])
+pushed most before after row node (Ok u) fits ok err full is = ok ∙ more_room most before.items row node is (fits refl)
+pushed most before after row node (Err e) fits ok err full is = ap (λ v. v.items) err ∙ more_full most before.items row node is full
 
-same_long : (ns ms : List Node) (old node : Node) → length (ns ++ node ∷ ms) ≡ length (ns ++ old ∷ ms)
-same_long ns ms old node = length-append ns (node ∷ ms) ∙ sym (length-append ns (old ∷ ms))
+pub holds_long : {t : Tree} {row : List Node} → Holds t row → length t.nodes.items ≡ min 257 (length row)
+holds_long {row = row} h = ap length h.first ∙ length-take 257 row
 
-pub put_room : (row : List Node) (count at : ℕ) (node : Node) → length row ≡ 256 → at < 256 →
-    Replaced (record { nodes = row; count = count }) (record { nodes = set row at node; count = count }) at node
-put_room row count at node long room ns ms old h e =
-    let many = h.many in
-    let same = same_long ns ms old node in
-    let here : length ns ≡ at = omega arith in
-    let more : length (ns ++ old ∷ ms) ≡ length ns + length (old ∷ ms) = length-append ns (old ∷ ms) in
-    let inside : at < length (ns ++ old ∷ ms) = omega arith in
-    record {
-      many = omega arith;
-      all = λ few.
-          let few' : length (ns ++ old ∷ ms) ≤ 256 = omega arith in
-          ap (λ n. take n (set row at node)) same ∙ take-set-lt (length (ns ++ old ∷ ms)) row at node inside
-          ∙ ap (λ v. set v at node) (h.all few') ∙ set_at ns old ms node at here;
-    }
+pub holds_all : {t : Tree} {row : List Node} → Holds t row → length row ≤ 256 → t.nodes.items ≡ row
+holds_all {row = row} h few = h.first ∙ take_all 257 row (omega arith)
 
-pub put_full : (t : Tree) (at : ℕ) (node : Node) → 256 ≤ at → Replaced t t at node
-put_full t at node full ns ms old h e =
-    let many = h.many in
-    let same = same_long ns ms old node in
-    let more : length (ns ++ old ∷ ms) ≡ length ns + length (old ∷ ms) = length-append ns (old ∷ ms) in
-    record { many = omega arith; all = λ few. absurd (omega arith) }
+pub put_within : (most : ℕ) (held ns ms : List Node) (old node : Node) (at : ℕ) → held ≡ take most (ns ++ old ∷ ms) → length ns ≡ at → at < most → set held at node ≡ take most (ns ++ node ∷ ms)
+put_within most held ns ms old node at is here within =
+    ap (λ v. set v at node) is ∙ sym (take-set-lt most (ns ++ old ∷ ms) at node within) ∙ ap (λ v. take most v) (set_at ns old ms node at here)
+
+pub put_past : (most : ℕ) (held ns ms : List Node) (old node : Node) → held ≡ take most (ns ++ old ∷ ms) → most ≤ length ns → held ≡ take most (ns ++ node ∷ ms)
+put_past most held ns ms old node is past = is ∙ take-append-le most ns (old ∷ ms) past ∙ sym (take-append-le most ns (node ∷ ms) past)
 
 -- one after the other
 pub grown_then : {a b c : Tree} (ms ns : List Node) → Grown a b ms → Grown b c ns → Grown a c (ms ++ ns)

@@ -1,10 +1,10 @@
 -- What the limits come to that are worked out over nodes. Assumes nothing.
-use Rattle.std.proofs.Common.{◌≡◌, ℕ, zero, suc, ◌+◌, ◌-◌, ◌*◌, ◌/◌, ◌%◌, ◌<◌, ◌≤◌, ◌⊎◌, List, length, get_or, nat_abs, IfSome, Some, None, Option, sym, refl, ap, ◌∙◌, subst, inl, inr, arith}
-use Rattle.std.proofs.lemmas.Nat.{mul-le}
+use Rattle.std.proofs.lemmas.Option.{none-some, same_Some}
+use Rattle.std.proofs.Common.{◌≡◌, ℕ, zero, suc, ◌+◌, ◌-◌, ◌*◌, ◌/◌, ◌%◌, ◌<◌, ◌≤◌, ◌⊎◌, List, length, get_or, IfSome, Some, None, Option, sym, refl, ap, ◌∙◌, subst, inl, inr, arith}
 use Rattle.std.proofs.lemmas.Bool.{cases_lt, cases_eq, lt-ltb, le-ltb, le-leb, lt-leb}
 use Rattle.deals.specs.Contract.{larger, million}
 use Rattle.deals.specs.Promise.{below}
-use Rattle.texts.specs.Limits.{largest_node, largest_at, single_measure, scale_at, deep_of_two, together, alone, bounded, measured_node, measured_at, MeasureLow}
+use Rattle.texts.specs.Limits.{largest_node, largest_at, scale_at, deep_of_two, together, alone, bounded, measured_node, measured_at, MeasureLow}
 use Rattle.texts.specs.declared.limits.Measure.{Measure}
 use Rattle.texts.specs.declared.nodes.Node.{Node}
 use Rattle.texts.specs.declared.nodes.Node.TheVariants.{Nothing, Pays, Turned, Both, Choice, If, Of, On, When, By, Fixed, Rate, Day, Plus, Minus, Times, Max, Less}
@@ -18,10 +18,6 @@ over_million_lem a b =
     let split : a ≡ 1000000 * (a / 1000000) + a % 1000000 = omega arith in
     let whole : a * b ≡ 1000000 * (a / 1000000 * b) + a % 1000000 * b = ap (λ n. n * b) split ∙ split_product (a / 1000000) (a % 1000000) b 1000000 in
     omega arith
-
-pub over_low : (a b : ℕ) → a < 1099511627776 → b < 4294967296 → a / 1000000 * b + a % 1000000 * b / 1000000 < 18446744073709551616
-over_low a b h k =
-    omega (arith, mul-le (a / 1000000) b 1099512 4294967296 (omega arith) (omega arith), mul-le (a % 1000000) b 1000000 4294967296 (omega arith) (omega arith))
 
 -- how deep
 pub below_none : (n : ℕ) → n ≡ 0 → 0 ≡ below n
@@ -74,12 +70,6 @@ bounded_low ns at r m e few flat on within = subst (λ z. Low ns at z) (sym e) (
     by (inl h) = rw (lt-ltb m.moves 1099511627776 h) (record { moved = h; few = few; flat = flat; on = on; within = within })
     by (inr h) = rw (le-ltb m.moves 1099511627776 h) tt
 
-pub some_is : {A : Type 0} (x y : A) → Some x ≡ Some y → x ≡ y
-some_is x y e = cc
-
-pub no_some : {A : Type 0} {B : Type 0} (x : A) → None ≡ Some x → B
-no_some x e = let z : ◌≡◌ {A = ℕ} 0 1 = cc in absurd (omega arith)
-
 below_le : (n m : ℕ) → n < m → below n ≤ m
 below_le n m l = by (cases_eq n 0)
   where
@@ -93,36 +83,6 @@ larger_le a b m h k = by (cases_lt a b)
     by : (a < b) ⊎ (b ≤ a) → larger a b ≤ m
     by (inl l) = rw (lt-ltb a b l) k
     by (inr l) = rw (le-ltb a b l) h
-
-abbrev OneLow : ℕ → ℕ → Measure → Type 0
-OneLow at next m = (m.parts + at ≤ next) × (m.deep + at ≤ next) × (m.next ≡ next)
-
-single_facts : (node : Node) (at : ℕ) (m : Measure) → single_measure node (at + 1) ≡ Some m → OneLow at (at + 1) m
-single_facts Nothing at m e =
-    let q = some_is (record { moves = 0; parts = 0; deep = 0; next = at + 1 }) m e in
-    (omega (arith, ap (λ z. z.parts) q), omega (arith, ap (λ z. z.deep) q), sym (ap (λ z. z.next) q))
-single_facts (Pays k a) at m e =
-    let q = some_is (record { moves = nat_abs a; parts = 1; deep = 0; next = at + 1 }) m e in
-    (omega (arith, ap (λ z. z.parts) q), omega (arith, ap (λ z. z.deep) q), sym (ap (λ z. z.next) q))
-single_facts Turned at m e = no_some m e
-single_facts Both at m e = no_some m e
-single_facts Choice at m e = no_some m e
-single_facts If at m e = no_some m e
-single_facts Of at m e = no_some m e
-single_facts (On d) at m e = no_some m e
-single_facts When at m e = no_some m e
-single_facts (By d) at m e = no_some m e
-single_facts (Fixed a) at m e = no_some m e
-single_facts (Rate k n) at m e = no_some m e
-single_facts Day at m e = no_some m e
-single_facts Plus at m e = no_some m e
-single_facts Minus at m e = no_some m e
-single_facts Times at m e = no_some m e
-single_facts Max at m e = no_some m e
-single_facts Less at m e = no_some m e
-
-pub single_low : (ns : List Node) (at : ℕ) (r : Option Measure) (node : Node) (m : Measure) → single_measure node (at + 1) ≡ Some m → at < length ns → r ≡ bounded m → Low ns at r
-single_low ns at r node m e l b = let f = single_facts node at m e in bounded_low ns at r m b (omega arith) (omega arith) (omega arith) (omega arith)
 
 deep_two_le : (node : Node) (n m : ℕ) → 1 ≤ m → n ≤ m → deep_of_two node n ≤ m
 deep_two_le Nothing n m u v = v
@@ -151,34 +111,34 @@ together_low ns at next r node x y p q l b =
     bounded_low ns at r (together node x y) b (omega arith) (omega arith) (omega arith) q.within
 
 alone_facts : (node : Node) (size d : ℕ) (x m : Measure) → 1 ≤ d → x.deep < d → alone node size x ≡ Some m → (m.parts ≡ x.parts) × (m.deep ≤ d) × (m.next ≡ x.next)
-alone_facts Nothing size d x m h k e = no_some m e
-alone_facts (Pays j a) size d x m h k e = no_some m e
+alone_facts Nothing size d x m h k e = absurd (none-some m e)
+alone_facts (Pays j a) size d x m h k e = absurd (none-some m e)
 alone_facts Turned size d x m h k e =
-    let q = some_is (record { moves = x.moves; parts = x.parts; deep = below x.deep; next = x.next }) m e in
+    let q = same_Some (record { moves = x.moves; parts = x.parts; deep = below x.deep; next = x.next }) m e in
     (sym (ap (λ z. z.parts) q), omega (arith, ap (λ z. z.deep) q, below_le x.deep d k), sym (ap (λ z. z.next) q))
-alone_facts Both size d x m h k e = no_some m e
-alone_facts Choice size d x m h k e = no_some m e
-alone_facts If size d x m h k e = no_some m e
+alone_facts Both size d x m h k e = absurd (none-some m e)
+alone_facts Choice size d x m h k e = absurd (none-some m e)
+alone_facts If size d x m h k e = absurd (none-some m e)
 alone_facts Of size d x m h k e =
-    let q = some_is (record { moves = x.moves * size / million + x.parts; parts = x.parts; deep = below x.deep; next = x.next }) m e in
+    let q = same_Some (record { moves = x.moves * size / million + x.parts; parts = x.parts; deep = below x.deep; next = x.next }) m e in
     (sym (ap (λ z. z.parts) q), omega (arith, ap (λ z. z.deep) q, below_le x.deep d k), sym (ap (λ z. z.next) q))
 alone_facts (On j) size d x m h k e =
-    let q = some_is (record { moves = x.moves; parts = x.parts; deep = below x.deep; next = x.next }) m e in
+    let q = same_Some (record { moves = x.moves; parts = x.parts; deep = below x.deep; next = x.next }) m e in
     (sym (ap (λ z. z.parts) q), omega (arith, ap (λ z. z.deep) q, below_le x.deep d k), sym (ap (λ z. z.next) q))
 alone_facts When size d x m h k e =
-    let q = some_is (record { moves = x.moves; parts = x.parts; deep = below x.deep; next = x.next }) m e in
+    let q = same_Some (record { moves = x.moves; parts = x.parts; deep = below x.deep; next = x.next }) m e in
     (sym (ap (λ z. z.parts) q), omega (arith, ap (λ z. z.deep) q, below_le x.deep d k), sym (ap (λ z. z.next) q))
 alone_facts (By j) size d x m h k e =
-    let q = some_is (record { moves = x.moves; parts = x.parts; deep = larger 1 (below x.deep); next = x.next }) m e in
+    let q = same_Some (record { moves = x.moves; parts = x.parts; deep = larger 1 (below x.deep); next = x.next }) m e in
     (sym (ap (λ z. z.parts) q), omega (arith, ap (λ z. z.deep) q, larger_le 1 (below x.deep) d h (below_le x.deep d k)), sym (ap (λ z. z.next) q))
-alone_facts (Fixed a) size d x m h k e = no_some m e
-alone_facts (Rate j n) size d x m h k e = no_some m e
-alone_facts Day size d x m h k e = no_some m e
-alone_facts Plus size d x m h k e = no_some m e
-alone_facts Minus size d x m h k e = no_some m e
-alone_facts Times size d x m h k e = no_some m e
-alone_facts Max size d x m h k e = no_some m e
-alone_facts Less size d x m h k e = no_some m e
+alone_facts (Fixed a) size d x m h k e = absurd (none-some m e)
+alone_facts (Rate j n) size d x m h k e = absurd (none-some m e)
+alone_facts Day size d x m h k e = absurd (none-some m e)
+alone_facts Plus size d x m h k e = absurd (none-some m e)
+alone_facts Minus size d x m h k e = absurd (none-some m e)
+alone_facts Times size d x m h k e = absurd (none-some m e)
+alone_facts Max size d x m h k e = absurd (none-some m e)
+alone_facts Less size d x m h k e = absurd (none-some m e)
 
 pub alone_low : (ns : List Node) (at next size : ℕ) (r : Option Measure) (node : Node) (x m : Measure) → MeasureLow ns next x → at < next → alone node size x ≡ Some m → r ≡ bounded m → Low ns at r
 alone_low ns at next size r node x m p l e b =

@@ -1,5 +1,6 @@
 -- What is worked out over the nodes of a contract says whether it is within limits. Assumes nothing.
-use Rattle.std.proofs.Common.{◌≡◌, ℕ, suc, ◌+◌, ◌-◌, ◌*◌, ◌/◌, ◌<◌, ◌≤◌, min, true, false, leb, ◌⊎◌, List, [], ◌∷◌, ◌++◌, length, get_or, ℤ, pos, negsuc, nat_abs, Some, None, MatchBool as ByBool, Option, sym, refl, ap, ◌∙◌, inl, inr, arith, length-append}
+use Rattle.std.proofs.lemmas.Option.{none-some, same_Some}
+use Rattle.std.proofs.Common.{◌≡◌, ℕ, suc, ◌+◌, ◌-◌, ◌*◌, ◌/◌, ◌<◌, ◌≤◌, min, true, false, leb, ◌⊎◌, List, [], ◌∷◌, ◌++◌, length, get_or, ℤ, pos, negsuc, nat_abs, Some, None, Bool, MatchBool, MatchOption, Option, subst, sym, refl, ap, ◌∙◌, inl, inr, arith, length-append}
 use Rattle.std.proofs.lemmas.Int.{ints}
 use Rattle.std.proofs.lemmas.Bool.{cases_lt, le-ltb, lt-leb, le-leb}
 use Rattle.std.proofs.lemmas.Bool.Decides.{nat_tests}
@@ -12,7 +13,7 @@ use Rattle.texts.specs.Limits.{leaf_size, joined_size, largest_at, single_measur
 use Rattle.texts.specs.declared.limits.Measure.{Measure}
 use Rattle.texts.specs.declared.nodes.Node.{Node}
 use Rattle.texts.specs.declared.nodes.Node.TheVariants.{Nothing, Pays, Turned, Both, Choice, If, Of, On, When, By, Fixed, Rate, Day, Plus, Minus, Times, Max, Less}
-use Rattle.texts.proofs.Weights.{largest_step, measured_none, measured_step, some_is, no_some}
+use Rattle.texts.proofs.Weights.{largest_step, measured_none, measured_step}
 use Rattle.texts.proofs.Standing.{StandsAt, stands_within, stands_head, stands_tail, stands_left, stands_right, stands_whole, nodes_length}
 
 pub size_is : (a : ℤ) → size a ≡ nat_abs a
@@ -241,26 +242,32 @@ measured_whole x row all none = by (cases_lt 256 (length (nodes_of x)))
             inl (omega (arith, count), m.0, ap (λ z. measured_at z 256 0) (all h) ∙ m.1 ∙ ap (λ k. Some (measure_of x k)) same)
         told (inr m) = inr (λ _ w. m.0 w, ap (λ z. measured_at z 256 0) (all h) ∙ m.1)
 
-pub told_some : (x : Contract) (row : List Node) (m : Measure) → (length (nodes_of x) ≤ 256 → row ≡ nodes_of x) → (256 < length (nodes_of x) → row ≡ []) →
-    measured_at row 256 0 ≡ Some m → ByBool (leb m.deep 65) (IsWithinLimits x) (IsWithinLimits x → ⊥)
+told_some : (x : Contract) (row : List Node) (m : Measure) → (length (nodes_of x) ≤ 256 → row ≡ nodes_of x) → (256 < length (nodes_of x) → row ≡ []) →
+    measured_at row 256 0 ≡ Some m → MatchBool (leb m.deep 65) (IsWithinLimits x) (IsWithinLimits x → ⊥)
 told_some x row m all none e = by (measured_whole x row all none)
   where
-    at_deep : (d : ℕ) → d ≡ deep x → marks x ≤ 256 → PartsWithin x → ByBool (leb d 65) (IsWithinLimits x) (IsWithinLimits x → ⊥)
+    at_deep : (d : ℕ) → d ≡ deep x → marks x ≤ 256 → PartsWithin x → MatchBool (leb d 65) (IsWithinLimits x) (IsWithinLimits x → ⊥)
     at_deep d same few small = told (cases_lt 65 d)
       where
-        told : (65 < d) ⊎ (d ≤ 65) → ByBool (leb d 65) (IsWithinLimits x) (IsWithinLimits x → ⊥)
+        told : (65 < d) ⊎ (d ≤ 65) → MatchBool (leb d 65) (IsWithinLimits x) (IsWithinLimits x → ⊥)
         told (inl l) = rw (lt-leb d 65 l) (λ w. let f = w.flat in omega (arith, same))
         told (inr l) = rw (le-leb d 65 l) (record { few = few; flat = omega (arith, same); small = small })
 
     by : ((marks x ≤ 256) × PartsWithin x × (measured_at row 256 0 ≡ Some (measure_of x (length (nodes_of x))))) ⊎ ((marks x ≤ 256 → PartsWithin x → ⊥) × (measured_at row 256 0 ≡ None)) →
-        ByBool (leb m.deep 65) (IsWithinLimits x) (IsWithinLimits x → ⊥)
-    by (inl p) = let same : m ≡ measure_of x (length (nodes_of x)) = some_is m (measure_of x (length (nodes_of x))) (sym e ∙ p.2) in at_deep m.deep (ap (λ z. z.deep) same) p.0 p.1
-    by (inr p) = no_some m (sym p.1 ∙ e)
+        MatchBool (leb m.deep 65) (IsWithinLimits x) (IsWithinLimits x → ⊥)
+    by (inl p) = let same : m ≡ measure_of x (length (nodes_of x)) = same_Some m (measure_of x (length (nodes_of x))) (sym e ∙ p.2) in at_deep m.deep (ap (λ z. z.deep) same) p.0 p.1
+    by (inr p) = absurd (none-some m (sym p.1 ∙ e))
 
-pub told_none : (x : Contract) (row : List Node) → (length (nodes_of x) ≤ 256 → row ≡ nodes_of x) → (256 < length (nodes_of x) → row ≡ []) →
+told_none : (x : Contract) (row : List Node) → (length (nodes_of x) ≤ 256 → row ≡ nodes_of x) → (256 < length (nodes_of x) → row ≡ []) →
     measured_at row 256 0 ≡ None → IsWithinLimits x → ⊥
 told_none x row all none e w = by (measured_whole x row all none)
   where
     by : ((marks x ≤ 256) × PartsWithin x × (measured_at row 256 0 ≡ Some (measure_of x (length (nodes_of x))))) ⊎ ((marks x ≤ 256 → PartsWithin x → ⊥) × (measured_at row 256 0 ≡ None)) → ⊥
-    by (inl p) = no_some (measure_of x (length (nodes_of x))) (sym e ∙ p.2)
+    by (inl p) = none-some (measure_of x (length (nodes_of x))) (sym e ∙ p.2)
     by (inr p) = p.0 w.few w.small
+
+-- an answer r about the measure, if there is one, says whether the choices are flat
+pub within_limits_lem : (x : Contract) (row : List Node) (o : Option Measure) (r : Bool) (Answers : Measure → Type 0) → (length (nodes_of x) ≤ 256 → row ≡ nodes_of x) → (256 < length (nodes_of x) → row ≡ []) →
+    o ≡ measured_at row 256 0 → ((m : Measure) → Answers m → r ≡ leb m.deep 65) → MatchOption o (r ≡ false) Answers → MatchBool r (IsWithinLimits x) (IsWithinLimits x → ⊥)
+within_limits_lem x row None r Answers all none e flat is = subst (λ b. MatchBool b (IsWithinLimits x) (IsWithinLimits x → ⊥)) (sym is) (told_none x row all none (sym e))
+within_limits_lem x row (Some m) r Answers all none e flat is = subst (λ b. MatchBool b (IsWithinLimits x) (IsWithinLimits x → ⊥)) (sym (flat m is)) (told_some x row m all none (sym e))

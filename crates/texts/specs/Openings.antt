@@ -1,13 +1,14 @@
 -- How contracts are read. Assumes nothing: these are definitions.
-use Rattle.std.specs.Prelude.{◌≡◌, ℕ, ◌≢◌}
+use Rattle.std.specs.Prelude.{◌≡◌, ℕ, List, ◌≢◌}
 use Rattle.deals.specs.Contract.{Contract}
 use Rattle.texts.specs.Text.{Language, exactly, ◌then◌, Number, Text}
+use Rattle.texts.specs.Reading.{Word}
 use Rattle.texts.specs.declared.contracts.Opening.{Opening}
 use Rattle.texts.specs.declared.contracts.Opening.TheVariants.{Nothing, Pays, Turned, Both, Choice, If, On, When, By, Figure}
 
--- the rest of a pair
-abbrev pub PairRest : Contract × Contract → Language
-PairRest p = Text p.0 then exactly ", " then Text p.1 then exactly ")"
+-- a pair behind a word
+abbrev pub PairText : List ℕ → Contract × Contract → Language
+PairText name p = Word name tt then Text p.0 then exactly ", " then Text p.1 then exactly ")"
 
 -- a day, and what stands behind it
 abbrev pub DayColon : ℕ → Language

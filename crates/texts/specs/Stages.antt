@@ -1,5 +1,6 @@
 -- How far the house is built. Assumes nothing: these are definitions.
-use Rattle.std.specs.Prelude.{◌≡◌, ℕ, Bool, true, false, ◌&&◌, List, [], ◌∷◌}
+use Rattle.std.specs.Prelude.{◌≡◌, ℕ, Bool, true, false, List}
+use Rattle.std.specs.List.{list_all}
 use Rattle.deals.specs.Contract.{Contract}
 use Rattle.deals.specs.Promise.{ContractFits, thin}
 use Rattle.texts.specs.declared.stages.Stage.{Stage}
@@ -38,5 +39,4 @@ thin_node Max = false
 thin_node Less = false
 
 abbrev pub all_thin : List Node → Bool
-all_thin [] = true
-all_thin (n ∷ ns) = thin_node n && all_thin ns
+all_thin ns = list_all thin_node ns

@@ -1,17 +1,19 @@
 // Contracts: each is read by how it begins, and goes as far as it can.
-ghost use Rattle.std.specs.Prelude.{◌≡◌, ℕ, ◌+◌, ◌≤◌, length, MatchResult};
+// A reader is handed a place and hands back the one behind: a cursor would carry the same two, and each clause would have to add that its bytes stay.
+// Its refusal is the place alone, since there is one reason: no contract's text goes on so.
+ghost use Rattle.std.specs.Prelude.{◌≡◌, ℕ, ◌+◌, ◌<◌, ◌≤◌, length, MatchResult};
 ghost use Rattle.texts.specs.Text.{Text};
 ghost use Rattle.texts.specs.Reading.{byte_at, Any, NoDigit, Took, Stops, capped};
 ghost use Rattle.texts.specs.Ranges.{ContractRead, PairRead};
-ghost use Rattle.texts.specs.Openings.{Opens, PairRest, DayColon};
+ghost use Rattle.texts.specs.Openings.{Opens, PairText, DayColon};
 
-use crate::figures::figure;
-use crate::nodes::{Node, Tree};
+use crate::figures::{End, figure};
+use crate::nodes::Node;
 use crate::numbers::{amount, number};
-use crate::ranges::Ranges;
+use crate::reader::Reading;
 use crate::words::{byte_at, word};
 
-// How a contract begins.
+// How a contract begins: what the readers are matched by.
 pub enum Opening {
     Nothing,
     Pays,
@@ -30,48 +32,43 @@ fn opening_at(text: &[u8], at: usize) -> Opening
     ensures { Opens result (byte_at text.now at) (byte_at text.now (at + 1)) }
 {
     match byte_at(text, at) {
-        110 => Opening::Nothing,
-        112 => Opening::Pays,
-        116 => Opening::Turned,
-        98 => {
-            if byte_at(text, at + 1) == 121 {
-                Opening::By
-            } else {
-                Opening::Both
-            }
-        }
-        99 => Opening::Choice,
-        105 => Opening::If,
-        111 => Opening::On,
-        119 => Opening::When,
+        Some(b'n') => Opening::Nothing,
+        Some(b'p') => Opening::Pays,
+        Some(b't') => Opening::Turned,
+        Some(b'b') if byte_at(text, at + 1) == Some(b'y') => Opening::By,
+        Some(b'b') => Opening::Both,
+        Some(b'c') => Opening::Choice,
+        Some(b'i') => Opening::If,
+        Some(b'o') => Opening::On,
+        Some(b'w') => Opening::When,
         _ => Opening::Figure,
     }
 }
 
 // Nothing.
-fn nothing(text: &[u8], at: usize, ranges: &mut Ranges, out: &mut Tree) -> Result<usize, usize>
+fn nothing(text: &[u8], at: usize, read: &mut Reading) -> Result<usize, usize>
     requires within { at ≤ length text.now }
     requires opens { Opens Opening.Nothing (byte_at text.now at) (byte_at text.now (at + 1)) }
-    ensures { MatchResult result (λ to. ContractRead text.now at out.old out.new ranges.old ranges.new to) (λ p. Stops NoDigit Text text.now at p) }
+    ensures { MatchResult result (λ to. ContractRead text.now at read.old read.new to) (λ p. Stops NoDigit Text text.now at p) }
 {
     let to = word(text, at, b"nothing")?;
-    out.push(Node::Nothing);
+    read.tree.push(Node::Nothing);
     Ok(to)
 }
 
 // So much of a currency.
-fn pays(text: &[u8], at: usize, ranges: &mut Ranges, out: &mut Tree) -> Result<usize, usize>
+fn pays(text: &[u8], at: usize, read: &mut Reading) -> Result<usize, usize>
     requires within { at ≤ length text.now }
     requires opens { Opens Opening.Pays (byte_at text.now at) (byte_at text.now (at + 1)) }
-    ensures { MatchResult result (λ to. ContractRead text.now at out.old out.new ranges.old ranges.new to) (λ p. Stops NoDigit Text text.now at p) }
+    ensures { MatchResult result (λ to. ContractRead text.now at read.old read.new to) (λ p. Stops NoDigit Text text.now at p) }
 {
     let to = word(text, at, b"pays ")?;
     let (a, to) = amount(text, to)?;
     let to = word(text, to, b" ")?;
     let (k, behind) = number(text, to)?;
-    let limit = ranges.currencies;
-    ranges.note(to, k, limit);
-    out.push(Node::Pays(k, a));
+    let limit = read.ranges.currencies;
+    read.ranges.note(to, k, limit);
+    read.tree.push(Node::Pays(k, a));
     Ok(behind)
 }
 
@@ -86,146 +83,120 @@ fn day_colon(text: &[u8], at: usize) -> Result<(u64, usize), usize>
 }
 
 // The same the other way round.
-#[cycle(both_by_day_choice_contract_if_else_on_day_pair_rest_scaled_turned_when)]
-fn turned(text: &[u8], at: usize, ranges: &mut Ranges, out: &mut Tree) -> Result<usize, usize>
+#[cycle(by_day_contract_if_else_on_day_pair_scaled_turned_when)]
+fn turned(text: &[u8], at: usize, read: &mut Reading) -> Result<usize, usize>
     requires within { at ≤ length text.now }
     requires opens { Opens Opening.Turned (byte_at text.now at) (byte_at text.now (at + 1)) }
-    ensures { MatchResult result (λ to. ContractRead text.now at out.old out.new ranges.old ranges.new to) (λ p. Stops NoDigit Text text.now at p) }
+    ensures { MatchResult result (λ to. ContractRead text.now at read.old read.new to) (λ p. Stops NoDigit Text text.now at p) }
 {
     let to = word(text, at, b"turned(")?;
-    out.push(Node::Turned);
-    let to = contract(text, to, ranges, out)?;
+    read.tree.push(Node::Turned);
+    let to = contract(text, to, read)?;
     word(text, to, b")")
 }
 
-// The rest of a pair.
-#[cycle(both_by_day_choice_contract_if_else_on_day_pair_rest_scaled_turned_when)]
-fn pair_rest(text: &[u8], at: usize, ranges: &mut Ranges, out: &mut Tree) -> Result<usize, usize>
+// Two, in brackets behind a word.
+#[cycle(by_day_contract_if_else_on_day_pair_scaled_turned_when)]
+fn pair(text: &[u8], at: usize, name: &[u8], node: Node, read: &mut Reading) -> Result<usize, usize>
     requires within { at ≤ length text.now }
-    ensures { MatchResult result (λ to. PairRead text.now at out.old out.new ranges.old ranges.new to) (λ p. Stops NoDigit PairRest text.now at p) }
+    requires named { 0 < length name.now }
+    ensures { MatchResult result (λ to. PairRead name.now node text.now at read.old read.new to) (λ p. Stops NoDigit (PairText name.now) text.now at p) }
 {
-    let to = contract(text, at, ranges, out)?;
+    let to = word(text, at, name)?;
+    read.tree.push(node);
+    let to = contract(text, to, read)?;
     let to = word(text, to, b", ")?;
-    let to = contract(text, to, ranges, out)?;
+    let to = contract(text, to, read)?;
     word(text, to, b")")
-}
-
-// Two.
-#[cycle(both_by_day_choice_contract_if_else_on_day_pair_rest_scaled_turned_when)]
-fn both(text: &[u8], at: usize, ranges: &mut Ranges, out: &mut Tree) -> Result<usize, usize>
-    requires within { at ≤ length text.now }
-    requires opens { Opens Opening.Both (byte_at text.now at) (byte_at text.now (at + 1)) }
-    ensures { MatchResult result (λ to. ContractRead text.now at out.old out.new ranges.old ranges.new to) (λ p. Stops NoDigit Text text.now at p) }
-{
-    let to = word(text, at, b"both(")?;
-    out.push(Node::Both);
-    pair_rest(text, to, ranges, out)
-}
-
-// One of two.
-#[cycle(both_by_day_choice_contract_if_else_on_day_pair_rest_scaled_turned_when)]
-fn choice(text: &[u8], at: usize, ranges: &mut Ranges, out: &mut Tree) -> Result<usize, usize>
-    requires within { at ≤ length text.now }
-    requires opens { Opens Opening.Choice (byte_at text.now at) (byte_at text.now (at + 1)) }
-    ensures { MatchResult result (λ to. ContractRead text.now at out.old out.new ranges.old ranges.new to) (λ p. Stops NoDigit Text text.now at p) }
-{
-    let to = word(text, at, b"choice(")?;
-    out.push(Node::Choice);
-    pair_rest(text, to, ranges, out)
 }
 
 // One or the other by a figure.
-#[cycle(both_by_day_choice_contract_if_else_on_day_pair_rest_scaled_turned_when)]
-fn if_else(text: &[u8], at: usize, ranges: &mut Ranges, out: &mut Tree) -> Result<usize, usize>
+#[cycle(by_day_contract_if_else_on_day_pair_scaled_turned_when)]
+fn if_else(text: &[u8], at: usize, read: &mut Reading) -> Result<usize, usize>
     requires within { at ≤ length text.now }
     requires opens { Opens Opening.If (byte_at text.now at) (byte_at text.now (at + 1)) }
-    ensures { MatchResult result (λ to. ContractRead text.now at out.old out.new ranges.old ranges.new to) (λ p. Stops NoDigit Text text.now at p) }
+    ensures { MatchResult result (λ to. ContractRead text.now at read.old read.new to) (λ p. Stops NoDigit Text text.now at p) }
 {
     let to = word(text, at, b"if ")?;
-    out.push(Node::If);
-    let to = figure(text, to, 32, ranges, out)?;
+    read.tree.push(Node::If);
+    let to = figure(text, to, End { byte: b' ' }, read)?;
     let to = word(text, to, b"then ")?;
-    let to = contract(text, to, ranges, out)?;
+    let to = contract(text, to, read)?;
     let to = word(text, to, b" else ")?;
-    contract(text, to, ranges, out)
+    contract(text, to, read)
 }
 
 // As much as a figure says.
-#[cycle(both_by_day_choice_contract_if_else_on_day_pair_rest_scaled_turned_when)]
-fn scaled(text: &[u8], at: usize, ranges: &mut Ranges, out: &mut Tree) -> Result<usize, usize>
+#[cycle(by_day_contract_if_else_on_day_pair_scaled_turned_when)]
+fn scaled(text: &[u8], at: usize, read: &mut Reading) -> Result<usize, usize>
     requires within { at ≤ length text.now }
     requires opens { Opens Opening.Figure (byte_at text.now at) (byte_at text.now (at + 1)) }
-    ensures { MatchResult result (λ to. ContractRead text.now at out.old out.new ranges.old ranges.new to) (λ p. Stops NoDigit Text text.now at p) }
+    ensures { MatchResult result (λ to. ContractRead text.now at read.old read.new to) (λ p. Stops NoDigit Text text.now at p) }
 {
-    out.push(Node::Of);
-    let to = figure(text, at, 32, ranges, out)?;
+    read.tree.push(Node::Of);
+    let to = figure(text, at, End { byte: b' ' }, read)?;
     let to = word(text, to, b"of ")?;
-    contract(text, to, ranges, out)
+    contract(text, to, read)
 }
 
 // On a day.
-#[cycle(both_by_day_choice_contract_if_else_on_day_pair_rest_scaled_turned_when)]
-fn on_day(text: &[u8], at: usize, ranges: &mut Ranges, out: &mut Tree) -> Result<usize, usize>
+#[cycle(by_day_contract_if_else_on_day_pair_scaled_turned_when)]
+fn on_day(text: &[u8], at: usize, read: &mut Reading) -> Result<usize, usize>
     requires within { at ≤ length text.now }
     requires opens { Opens Opening.On (byte_at text.now at) (byte_at text.now (at + 1)) }
-    ensures { MatchResult result (λ to. ContractRead text.now at out.old out.new ranges.old ranges.new to) (λ p. Stops NoDigit Text text.now at p) }
+    ensures { MatchResult result (λ to. ContractRead text.now at read.old read.new to) (λ p. Stops NoDigit Text text.now at p) }
 {
     let to = word(text, at, b"on ")?;
     let (d, behind) = day_colon(text, to)?;
-    ranges.note(to, d, 65536);
-    out.push(Node::On(d));
-    contract(text, behind, ranges, out)
+    read.ranges.note(to, d, 65536);
+    read.tree.push(Node::On(d));
+    contract(text, behind, read)
 }
 
 // When a figure says so.
-#[cycle(both_by_day_choice_contract_if_else_on_day_pair_rest_scaled_turned_when)]
-fn when(text: &[u8], at: usize, ranges: &mut Ranges, out: &mut Tree) -> Result<usize, usize>
+#[cycle(by_day_contract_if_else_on_day_pair_scaled_turned_when)]
+fn when(text: &[u8], at: usize, read: &mut Reading) -> Result<usize, usize>
     requires within { at ≤ length text.now }
     requires opens { Opens Opening.When (byte_at text.now at) (byte_at text.now (at + 1)) }
-    ensures { MatchResult result (λ to. ContractRead text.now at out.old out.new ranges.old ranges.new to) (λ p. Stops NoDigit Text text.now at p) }
+    ensures { MatchResult result (λ to. ContractRead text.now at read.old read.new to) (λ p. Stops NoDigit Text text.now at p) }
 {
     let to = word(text, at, b"when ")?;
-    out.push(Node::When);
-    let to = figure(text, to, 58, ranges, out)?;
+    read.tree.push(Node::When);
+    let to = figure(text, to, End { byte: b':' }, read)?;
     let to = word(text, to, b" ")?;
-    contract(text, to, ranges, out)
+    contract(text, to, read)
 }
 
-// On a chosen day.
-#[cycle(both_by_day_choice_contract_if_else_on_day_pair_rest_scaled_turned_when)]
-fn by_day(text: &[u8], at: usize, ranges: &mut Ranges, out: &mut Tree) -> Result<usize, usize>
+// On a chosen day. The node holds the day that was read, so one function for this and `on_day` would take a closure that makes the node, and a clause that says which one it makes: no shorter than both.
+#[cycle(by_day_contract_if_else_on_day_pair_scaled_turned_when)]
+fn by_day(text: &[u8], at: usize, read: &mut Reading) -> Result<usize, usize>
     requires within { at ≤ length text.now }
     requires opens { Opens Opening.By (byte_at text.now at) (byte_at text.now (at + 1)) }
-    ensures { MatchResult result (λ to. ContractRead text.now at out.old out.new ranges.old ranges.new to) (λ p. Stops NoDigit Text text.now at p) }
+    ensures { MatchResult result (λ to. ContractRead text.now at read.old read.new to) (λ p. Stops NoDigit Text text.now at p) }
 {
     let to = word(text, at, b"by ")?;
     let (d, behind) = day_colon(text, to)?;
-    ranges.note(to, d, 65536);
-    out.push(Node::By(d));
-    contract(text, behind, ranges, out)
+    read.ranges.note(to, d, 65536);
+    read.tree.push(Node::By(d));
+    contract(text, behind, read)
 }
 
 // A contract; where the text goes on behind it.
-#[cycle(both_by_day_choice_contract_if_else_on_day_pair_rest_scaled_turned_when)]
-pub(crate) fn contract(
-    text: &[u8],
-    at: usize,
-    ranges: &mut Ranges,
-    out: &mut Tree,
-) -> Result<usize, usize>
+#[cycle(by_day_contract_if_else_on_day_pair_scaled_turned_when)]
+pub(crate) fn contract(text: &[u8], at: usize, read: &mut Reading) -> Result<usize, usize>
     requires within { at ≤ length text.now }
-    ensures { MatchResult result (λ to. ContractRead text.now at out.old out.new ranges.old ranges.new to) (λ p. Stops NoDigit Text text.now at p) }
+    ensures { MatchResult result (λ to. ContractRead text.now at read.old read.new to) (λ p. Stops NoDigit Text text.now at p) }
 {
     match opening_at(text, at) {
-        Opening::Nothing => nothing(text, at, ranges, out),
-        Opening::Pays => pays(text, at, ranges, out),
-        Opening::Turned => turned(text, at, ranges, out),
-        Opening::Both => both(text, at, ranges, out),
-        Opening::Choice => choice(text, at, ranges, out),
-        Opening::If => if_else(text, at, ranges, out),
-        Opening::On => on_day(text, at, ranges, out),
-        Opening::When => when(text, at, ranges, out),
-        Opening::By => by_day(text, at, ranges, out),
-        Opening::Figure => scaled(text, at, ranges, out),
+        Opening::Nothing => nothing(text, at, read),
+        Opening::Pays => pays(text, at, read),
+        Opening::Turned => turned(text, at, read),
+        Opening::Both => pair(text, at, b"both(", Node::Both, read),
+        Opening::Choice => pair(text, at, b"choice(", Node::Choice, read),
+        Opening::If => if_else(text, at, read),
+        Opening::On => on_day(text, at, read),
+        Opening::When => when(text, at, read),
+        Opening::By => by_day(text, at, read),
+        Opening::Figure => scaled(text, at, read),
     }
 }

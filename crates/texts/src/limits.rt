@@ -50,11 +50,7 @@ fn joined(node: Node, e: u64, f: u64) -> Option<u64>
 fn small(size: u64, next: usize) -> Option<(u64, usize)>
     ensures { result ≡ below_32 size next }
 {
-    if size < 4294967296 {
-        Some((size, next))
-    } else {
-        None
-    }
+    (size < 4294967296).then_some((size, next))
 }
 
 // How large the figure can be whose nodes begin at a place, and where those behind it begin; nothing if a limit is passed. At most so deep.
@@ -69,15 +65,9 @@ fn largest(nodes: &[Node], at: usize, falling: usize) -> Option<(u64, usize)>
     if let Some(size) = leaf(node) {
         return small(size, at + 1);
     }
-    let Some((e, next)) = largest(nodes, at + 1, falling - 1) else {
-        return None;
-    };
-    let Some((f, next)) = largest(nodes, next, falling - 1) else {
-        return None;
-    };
-    let Some(size) = joined(node, e, f) else {
-        return None;
-    };
+    let (e, next) = largest(nodes, at + 1, falling - 1)?;
+    let (f, next) = largest(nodes, next, falling - 1)?;
+    let size = joined(node, e, f)?;
     small(size, next)
 }
 
@@ -127,10 +117,7 @@ fn scale(nodes: &[Node], node: Node, at: usize, falling: usize) -> Option<(u64, 
 pub(crate) fn pair(node: Node) -> bool
     ensures { result ≡ is_pair node }
 {
-    match node {
-        Node::Both | Node::Choice | Node::If => true,
-        _ => false,
-    }
+    matches!(node, Node::Both | Node::Choice | Node::If)
 }
 
 // How deep the choices of a part are, seen from one level above.
@@ -186,11 +173,7 @@ fn under(node: Node, size: u64, x: Measure) -> Option<Measure>
 fn moderate(m: Measure) -> Option<Measure>
     ensures { result ≡ bounded m }
 {
-    if m.moves < 1099511627776 {
-        Some(m)
-    } else {
-        None
-    }
+    (m.moves < 1099511627776).then_some(m)
 }
 
 // The measure of the contract whose nodes begin at a place; nothing if a limit is passed. At most so deep.
@@ -206,30 +189,18 @@ fn measure_at(nodes: &[Node], at: usize, falling: usize) -> Option<Measure>
     if let Some(m) = single(node, at + 1) {
         return moderate(m);
     }
-    let Some((size, next)) = scale(nodes, node, at + 1, falling) else {
-        return None;
-    };
-    let Some(x) = measure_at(nodes, next, falling - 1) else {
-        return None;
-    };
+    let (size, next) = scale(nodes, node, at + 1, falling)?;
+    let x = measure_at(nodes, next, falling - 1)?;
     if pair(node) {
-        let Some(y) = measure_at(nodes, x.next, falling - 1) else {
-            return None;
-        };
+        let y = measure_at(nodes, x.next, falling - 1)?;
         return moderate(both(node, x, y));
     }
-    let Some(m) = under(node, size, x) else {
-        return None;
-    };
-    moderate(m)
+    moderate(under(node, size, x)?)
 }
 
 // Whether a contract has at most 256 marks and choices at most 64 deep, and passes no limit.
 pub(crate) fn within_limits(tree: &Tree) -> bool
     ensures { (x : Contract) → Holds tree.now (nodes_of x) → MatchBool result (IsWithinLimits x) (IsWithinLimits x → ⊥) }
 {
-    match measure_at(tree.row(), 0, 256) {
-        Some(m) => m.deep <= 65,
-        None => false,
-    }
+    measure_at(tree.row(), 0, 256).is_some_and(|m| m.deep <= 65)
 }

@@ -2,9 +2,12 @@
 ghost use Rattle.std.specs.Prelude.{◌≡◌, ◌<◌, ◌≤◌, min, List, [], ◌∷◌, ◌++◌, length, slice_index_or};
 ghost use Rattle.texts.specs.Nodes.{Holds, Grown};
 
+use arrayvec::ArrayVec;
+
 // A part of a contract or of a figure.
-#[derive(Clone, Copy)]
+#[derive(Clone, Copy, Default)]
 pub enum Node {
+    #[default]
     Nothing,
     Pays(u64, i64),
     Turned,
@@ -25,11 +28,10 @@ pub enum Node {
     Less,
 }
 
-// The nodes of one contract, up to 256, and how many it has, where 257 stands for all above 256.
+// The nodes of one contract, and one more where there are above 256, so that too long a row is known by its length.
 #[derive(Drop)]
 pub struct Tree {
-    nodes: [Node; 256],
-    count: usize,
+    nodes: ArrayVec<Node, 257>,
 }
 
 impl Tree {
@@ -37,44 +39,35 @@ impl Tree {
         ensures { Holds result [] }
     {
         Tree {
-            nodes: [Node::Nothing; 256],
-            count: 0,
+            nodes: ArrayVec::new(),
         }
     }
 
     pub(crate) fn clear(&mut self)
         ensures { Holds self.new [] }
     {
-        self.count = 0;
+        self.nodes.clear();
     }
 
+    // One node more; behind 257 it changes nothing.
     pub(crate) fn push(&mut self, node: Node)
         ensures { Grown self.old self.new (node ∷ []) }
     {
-        if self.count < 256 {
-            self.nodes[self.count] = node;
-            self.count += 1;
-        } else {
-            self.count = 257;
-        }
+        let _ = self.nodes.try_push(node);
     }
 
     // How many nodes there are, and so where the next goes.
     pub(crate) fn count(&self) -> usize
         ensures { (ns : List Node) → Holds self.now ns → result ≡ min (length ns) 257 }
     {
-        self.count
+        self.nodes.len()
     }
 
     // One of the nodes.
     pub fn node(&self, i: usize) -> Node
         ensures { (ns : List Node) → Holds self.now ns → length ns ≤ 256 → i < length ns → result ≡ slice_index_or ns i Node.Nothing }
     {
-        if i < 256 {
-            self.nodes[i]
-        } else {
-            Node::Nothing
-        }
+        self.nodes.get(i).copied().unwrap_or(Node::Nothing)
     }
 
     // The nodes in a row; none if there are more than 256.
@@ -84,10 +77,10 @@ impl Tree {
         ensures held { 0 < length result.now → Holds self.now result.now }
         ensures none { (ns : List Node) → Holds self.now ns → 256 < length ns → result.now ≡ [] }
     {
-        if self.count <= 256 {
-            &self.nodes[0..self.count]
+        if self.nodes.len() <= 256 {
+            &self.nodes
         } else {
-            &self.nodes[0..0]
+            &[]
         }
     }
 
@@ -95,8 +88,8 @@ impl Tree {
     pub(crate) fn put(&mut self, at: usize, node: Node)
         ensures { (ns ms : List Node) (old : Node) → Holds self.old (ns ++ old ∷ ms) → at ≡ min (length ns) 257 → Holds self.new (ns ++ node ∷ ms) }
     {
-        if at < 256 {
-            self.nodes[at] = node;
+        if let Some(held) = self.nodes.get_mut(at) {
+            *held = node;
         }
     }
 }

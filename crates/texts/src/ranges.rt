@@ -28,10 +28,8 @@ impl Ranges {
     pub(crate) fn note(&mut self, at: usize, number: u64, limit: u64)
         ensures { (rs cs n : ℕ) (ks : List Numeral) → Counts self.old rs cs ks → number ≡ capped n → Counts self.new rs cs (ks ++ record { place = at; limit = limit; value = n } ∷ []) }
     {
-        if let None = self.first {
-            if limit <= number {
-                self.first = Some(at);
-            }
+        if self.first.is_none() && limit <= number {
+            self.first = Some(at);
         }
     }
 }

@@ -10,7 +10,8 @@ ghost use Rattle.texts.specs.Ranges.{WholeRead};
 use crate::contracts::contract;
 use crate::limits::within_limits;
 use crate::nodes::Tree;
-use crate::ranges::Ranges;
+use crate::reader::Reading;
+use std::fmt;
 
 // Why and where a text is refused: it is no contract's, or a number is out of range or a limit passed.
 #[derive(Clone, Copy)]
@@ -20,11 +21,11 @@ pub enum TextRefusal {
 }
 
 // Reads all of a text, or finds the first byte at which no contract's text goes on so.
-fn read_whole(text: &[u8], ranges: &mut Ranges, out: &mut Tree) -> Result<(), usize>
-    ensures { MatchResult result (λ _. WholeRead text.now ranges.old ranges.new out.new) (λ p. RefusedAt text.now p) }
+fn read_whole(text: &[u8], read: &mut Reading) -> Result<(), usize>
+    requires { Holds read.old.tree [] }
+    ensures { MatchResult result (λ _. WholeRead text.now read.old read.new) (λ p. RefusedAt text.now p) }
 {
-    out.clear();
-    let to = contract(text, 0, ranges, out)?;
+    let to = contract(text, 0, read)?;
     if to < text.len() {
         return Err(to);
     }
@@ -32,34 +33,43 @@ fn read_whole(text: &[u8], ranges: &mut Ranges, out: &mut Tree) -> Result<(), us
 }
 
 // Reads a text, with so many rates and currencies.
-fn read_text(text: &[u8], rates: u16, currencies: u8, out: &mut Tree) -> Result<(), TextRefusal>
-    ensures { MatchResult result (λ _. (x : Contract) × TextTaken rates currencies text.now x × Holds out.new (nodes_of x)) (λ e. TextRefused rates currencies text.now (refusal_number e) (refusal_place e) × (refusal_place e ≤ length text.now)) }
+fn read_text(text: &[u8], rates: u16, currencies: u8) -> Result<Tree, TextRefusal>
+    ensures { MatchResult result (λ t. (x : Contract) × TextTaken rates currencies text.now x × Holds t (nodes_of x)) (λ e. TextRefused rates currencies text.now (refusal_number e) (refusal_place e) × (refusal_place e ≤ length text.now)) }
 {
     if text.len() > 8192 {
         return Err(TextRefusal::Limit(0));
     }
-    let mut ranges = Ranges::new(rates as u64, currencies as u64);
-    if let Err(place) = read_whole(text, &mut ranges, out) {
-        return Err(TextRefusal::NoContract(place));
-    }
-    if !within_limits(out) {
+    let mut read = Reading::new(rates, currencies);
+    read_whole(text, &mut read).map_err(TextRefusal::NoContract)?;
+    if !within_limits(&read.tree) {
         return Err(TextRefusal::Limit(0));
     }
-    match ranges.first {
+    match read.ranges.first {
         Some(place) => Err(TextRefusal::Limit(place)),
-        None => Ok(()),
+        None => Ok(read.tree),
     }
 }
 
-// A refusal of a text that begins at a place.
-fn behind(refusal: TextRefusal, from: usize) -> TextRefusal
-    requires { from + refusal_place refusal < 18446744073709551616 }
-    ensures number { refusal_number result ≡ refusal_number refusal }
-    ensures place { refusal_place result ≡ from + refusal_place refusal }
-{
-    match refusal {
-        TextRefusal::NoContract(place) => TextRefusal::NoContract(from + place),
-        TextRefusal::Limit(place) => TextRefusal::Limit(from + place),
+impl TextRefusal {
+    // The refusal of a text that begins at a place.
+    fn behind(self, from: usize) -> TextRefusal
+        requires { from + refusal_place self < 18446744073709551616 }
+        ensures number { refusal_number result ≡ refusal_number self }
+        ensures place { refusal_place result ≡ from + refusal_place self }
+    {
+        match self {
+            TextRefusal::NoContract(place) => TextRefusal::NoContract(from + place),
+            TextRefusal::Limit(place) => TextRefusal::Limit(from + place),
+        }
+    }
+}
+
+impl fmt::Display for TextRefusal {
+    fn fmt<W: fmt::Write>(&self, f: &mut fmt::Formatter<W>) -> fmt::Result {
+        match self {
+            TextRefusal::NoContract(place) => write!(f, "refused 1 at {place}"),
+            TextRefusal::Limit(place) => write!(f, "refused 2 at {place}"),
+        }
     }
 }
 
@@ -76,11 +86,7 @@ pub fn read_part(
     requires within { to ≤ length bytes.now }
     ensures { MatchResult result (λ _. (x : Contract) × TextTaken rates currencies (between from to bytes.now) x × Holds out.new (nodes_of x)) (λ e. PartRefused rates currencies (between from to bytes.now) from e × Holds out.new []) }
 {
-    match read_text(&bytes[from..to], rates, currencies, out) {
-        Ok(()) => Ok(()),
-        Err(refusal) => {
-            out.clear();
-            Err(behind(refusal, from))
-        }
-    }
+    out.clear();
+    *out = read_text(&bytes[from..to], rates, currencies).map_err(|refusal| refusal.behind(from))?;
+    Ok(())
 }

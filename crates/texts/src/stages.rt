@@ -18,28 +18,24 @@ pub enum Stage {
 fn known(node: Node) -> bool
     ensures { result ≡ thin_node node }
 {
-    match node {
-        Node::Nothing | Node::Pays(_, _) | Node::Turned | Node::Both | Node::On(_) => true,
-        _ => false,
-    }
+    matches!(
+        node,
+        Node::Nothing | Node::Pays(_, _) | Node::Turned | Node::Both | Node::On(_)
+    )
 }
 
 // Whether the thin house knows all nodes of a row.
 fn all_known(nodes: &[Node]) -> bool
     ensures { result ≡ all_thin nodes.now }
 {
-    for node in nodes {
-        if !known(*node) {
-            return false;
-        }
-    }
-    true
+    nodes.iter().all(|node| known(*node))
 }
 
 // Whether the house takes a contract yet.
 pub fn built(tree: &Tree, stage: Stage) -> bool
     ensures { (x : Contract) → Holds tree.now (nodes_of x) → marks x ≤ 256 → result ≡ built_at stage x }
 {
+    // A match, so that each further stage has to say what it takes.
     match stage {
         Stage::Thin => all_known(tree.row()),
         Stage::All => true,

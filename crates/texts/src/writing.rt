@@ -5,6 +5,7 @@ ghost use Rattle.texts.specs.Spelling.{Put, FirstPut, Wrote, Scaled, NotSpelled,
 
 use crate::limits::pair;
 use crate::nodes::{Node, Tree};
+use itoa::Buffer;
 
 // Why a contract can't be written: the nodes are no contract's, or there is no room.
 #[derive(Clone, Copy)]
@@ -14,13 +15,13 @@ pub enum WriteRefusal {
 }
 
 // Writes a byte, if there is room; where the next goes.
+// Here and below `out` and `to` stay two: a struct of them would have each function promise that it lends the same bytes.
 fn put_byte(out: &mut [u8], to: usize, b: u8) -> usize
     requires { to < 18446744073709551615 }
     ensures { Put out.old out.new to (b ∷ []) result }
 {
     if to < out.len() {
         out[to] = b;
-        return to + 1;
     }
     to + 1
 }
@@ -42,23 +43,17 @@ fn put_number(out: &mut [u8], to: usize, n: u64) -> usize
     requires { to < 1000000 }
     ensures { Put out.old out.new to (written_number n) result }
 {
-    if n < 10 {
-        return put_byte(out, to, 48 + n as u8);
-    }
-    let next = put_number(out, to, n / 10);
-    put_byte(out, next, 48 + (n % 10) as u8)
+    let mut digits = Buffer::new();
+    put_word(out, to, digits.format(n).as_bytes())
 }
 
-// Writes a number with sign.
+// Writes a number with sign. One function for both kinds would promise the library's digits, and each caller would have to say which they are.
 fn put_amount(out: &mut [u8], to: usize, a: i64) -> usize
     requires { to < 999999 }
     ensures { Put out.old out.new to (written_amount a) result }
 {
-    if a < 0 {
-        let next = put_byte(out, to, 45);
-        return put_number(out, next, a.unsigned_abs());
-    }
-    put_number(out, to, a.unsigned_abs())
+    let mut digits = Buffer::new();
+    put_word(out, to, digits.format(a).as_bytes())
 }
 
 // Writes a payment.
@@ -154,32 +149,34 @@ fn ending(node: Node) -> &'static [u8]
 fn figural(node: Node) -> bool
     ensures { result ≡ is_figure node }
 {
-    match node {
-        Node::Fixed(_) | Node::Rate(_, _) | Node::Day => true,
-        Node::Plus | Node::Minus | Node::Times | Node::Max | Node::Less => true,
-        _ => false,
-    }
+    matches!(
+        node,
+        Node::Fixed(_)
+            | Node::Rate(_, _)
+            | Node::Day
+            | Node::Plus
+            | Node::Minus
+            | Node::Times
+            | Node::Max
+            | Node::Less
+    )
 }
 
 // Whether nothing stands within a node.
 fn single(node: Node) -> bool
     ensures { result ≡ is_leaf node }
 {
-    match node {
-        Node::Nothing | Node::Pays(_, _) => true,
-        Node::Fixed(_) | Node::Rate(_, _) | Node::Day => true,
-        _ => false,
-    }
+    matches!(
+        node,
+        Node::Nothing | Node::Pays(_, _) | Node::Fixed(_) | Node::Rate(_, _) | Node::Day
+    )
 }
 
 // Whether a contract has a figure before its parts.
 fn scaled(node: Node) -> bool
     ensures { result ≡ has_figure node }
 {
-    match node {
-        Node::If | Node::Of | Node::When => true,
-        _ => false,
-    }
+    matches!(node, Node::If | Node::Of | Node::When)
 }
 
 // Whether an amount is one that nodes hold: -2^63 is none.
@@ -215,6 +212,7 @@ fn put_first(out: &mut [u8], to: usize, node: Node) -> Option<usize>
 }
 
 // Writes the figure whose nodes begin at a place, as far as there is room: where its nodes and its bytes end; nothing if no figure stands there. At most so deep.
+// Here, below and in `measure_at` the row is a slice with a bound: a struct of both would be opened in each clause. So with the place to write at, which is within 1,000 bytes for each node before.
 fn write_figure(
     nodes: &[Node],
     at: usize,
@@ -233,19 +231,13 @@ fn write_figure(
     if !figural(node) {
         return None;
     }
-    let Some(next) = put_first(out, to, node) else {
-        return None;
-    };
+    let next = put_first(out, to, node)?;
     if single(node) {
         return Some((at + 1, next));
     }
-    let Some((behind, next)) = write_figure(nodes, at + 1, falling - 1, out, next) else {
-        return None;
-    };
+    let (behind, next) = write_figure(nodes, at + 1, falling - 1, out, next)?;
     let next = put_word(out, next, middle(node));
-    let Some((behind, next)) = write_figure(nodes, behind, falling - 1, out, next) else {
-        return None;
-    };
+    let (behind, next) = write_figure(nodes, behind, falling - 1, out, next)?;
     Some((behind, put_word(out, next, ending(node))))
 }
 
@@ -266,13 +258,11 @@ fn write_scale(
     if !scaled(node) {
         return Some((at, to));
     }
-    let Some((behind, next)) = write_figure(nodes, at, falling, out, to) else {
-        return None;
-    };
+    let (behind, next) = write_figure(nodes, at, falling, out, to)?;
     Some((behind, put_word(out, next, scaling(node))))
 }
 
-// Writes the contract whose nodes begin at a place, as far as there is room: where its nodes and its bytes end; nothing if no contract stands there. At most so deep.
+// Writes the contract whose nodes begin at a place, as far as there is room: where its nodes and its bytes end; nothing if no contract stands there. At most so deep. It begins as `write_figure`, but goes on by other words.
 fn write_at(
     nodes: &[Node],
     at: usize,
@@ -291,25 +281,17 @@ fn write_at(
     if figural(node) {
         return None;
     }
-    let Some(next) = put_first(out, to, node) else {
-        return None;
-    };
+    let next = put_first(out, to, node)?;
     if single(node) {
         return Some((at + 1, next));
     }
-    let Some((behind, next)) = write_scale(nodes, node, at + 1, falling, out, next) else {
-        return None;
-    };
-    let Some((behind, next)) = write_at(nodes, behind, falling - 1, out, next) else {
-        return None;
-    };
+    let (behind, next) = write_scale(nodes, node, at + 1, falling, out, next)?;
+    let (behind, next) = write_at(nodes, behind, falling - 1, out, next)?;
     if !pair(node) {
         return Some((behind, put_word(out, next, ending(node))));
     }
     let next = put_word(out, next, middle(node));
-    let Some((behind, next)) = write_at(nodes, behind, falling - 1, out, next) else {
-        return None;
-    };
+    let (behind, next) = write_at(nodes, behind, falling - 1, out, next)?;
     Some((behind, put_word(out, next, ending(node))))
 }
 
@@ -318,13 +300,8 @@ fn text_length(nodes: &[Node]) -> Option<usize>
     requires { length nodes.now ≤ 256 }
     ensures { MatchOption result (NotSpelled nodes.now) (SpelledWhole nodes.now) }
 {
-    let Some((next, long)) = write_at(nodes, 0, 256, &mut [], 0) else {
-        return None;
-    };
-    if next < nodes.len() {
-        return None;
-    }
-    Some(long)
+    let (next, long) = write_at(nodes, 0, 256, &mut [], 0)?;
+    (next == nodes.len()).then_some(long)
 }
 
 // Writes the contract that a tree holds in front of `out`: how many bytes it has. Nothing is written on a refusal.
@@ -332,9 +309,7 @@ pub fn write_contract(tree: &Tree, out: &mut [u8]) -> Result<usize, WriteRefusal
     ensures { MatchResult result (λ n. WrittenOut tree.now out.old out.new n) (λ e. NotWritten tree.now out.old e × (out.new ≡ out.old)) }
 {
     let nodes = tree.row();
-    let Some(long) = text_length(nodes) else {
-        return Err(WriteRefusal::NoContract);
-    };
+    let long = text_length(nodes).ok_or(WriteRefusal::NoContract)?;
     if out.len() < long {
         return Err(WriteRefusal::NoRoom);
     }

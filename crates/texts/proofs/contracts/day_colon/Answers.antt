@@ -1,18 +1,16 @@
-use Rattle.std.proofs.Common.{[], ◌∷◌, refl}
-use Rattle.std.proofs.lemmas.Result.{err_from_is_err_and}
-use Rattle.texts.proofs.Parts.{by_end, then_took, then_stops, stops_then}
+use Rattle.texts.proofs.Mapped.{handed_on}
+use Rattle.texts.proofs.Parts.{a_word, by_end, then_took, then_stops, stops_then}
+use Rattle.std.proofs.Common.{refl}
 use Rattle.texts.proofs.ContractParts.{day_as, day_colon_stops}
 use Rattle.texts.proofs.contracts.day_colon.Goals as goal
 
 pub returns-in_err-d : goal.returns-in_err-d
 returns-in_err-d c =
-    let p = err_from_is_err_and c.from_residual.result c.from_residual.ensures.1 in
-    rw (p.1, p.2) (day_colon_stops (stops_then (by_end refl) tt (58 ∷ 32 ∷ []) refl c.in_err-d.ensures))
+    handed_on _ _ _ _ c.from_residual.ensures.1 (day_colon_stops (stops_then (by_end refl) a_word c.in_err-d.ensures))
 
 pub returns-in_err-to : goal.returns-in_err-to
 returns-in_err-to c =
-    let p = err_from_is_err_and c.from_residual-in_err-to.result c.from_residual-in_err-to.ensures.1 in
-    rw (p.1, p.2) (day_colon_stops (then_stops (by_end refl) c.in_ok-d.ensures.2 c.in_err-to.ensures))
+    handed_on _ _ _ _ c.from_residual-in_err-to.ensures.1 (day_colon_stops (then_stops (by_end refl) c.in_ok-d.ensures.2 c.in_err-to.ensures))
 
 pub returns : goal.returns
 returns c =

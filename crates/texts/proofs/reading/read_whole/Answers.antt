@@ -1,5 +1,5 @@
+use Rattle.texts.proofs.Mapped.{handed_on}
 use Rattle.std.proofs.Common.{◌≡◌, length, subst, arith}
-use Rattle.std.proofs.lemmas.Result.{err_from_is_err_and}
 use Rattle.texts.specs.Bounds.{ContractNumerals}
 use Rattle.texts.specs.Ranges.{Noted}
 use Rattle.texts.proofs.Whole.{refused_where, refused_behind, read_whole}
@@ -7,8 +7,7 @@ use Rattle.texts.proofs.reading.read_whole.Goals as goal
 
 pub returns-in_err-to : goal.returns-in_err-to
 returns-in_err-to c =
-    let p = err_from_is_err_and c.from_residual.result c.from_residual.ensures.1 in
-    rw (p.1, p.2) (refused_where c.args.text.now _ c.in_err-to.ensures)
+    handed_on _ _ _ _ c.from_residual.ensures.1 (refused_where c.args.text.now _ c.in_err-to.ensures)
 
 pub returns-then-to-text : goal.returns-then-to-text
 returns-then-to-text c =
@@ -22,6 +21,6 @@ returns c =
     let end : c.in_ok-to.to ≡ length c.args.text.now = let w = x.1.within in omega arith in
     record {
       contract = x.0;
-      read = record { text_of = whole.0; only = whole.1; held = x.2 _ c.clear.ensures };
-      noted = subst (λ b. Noted c.args.ranges.now c.contract.new.ranges (λ rs cs. ContractNumerals rs cs x.0) c.args.text.now 0 b) end x.3;
+      read = record { text_of = whole.0; only = whole.1; held = x.2 _ c.requires };
+      noted = subst (λ b. Noted c.args.read.now.ranges c.contract.new.read.ranges (λ rs cs. ContractNumerals rs cs x.0) c.args.text.now 0 b) end x.3;
     }

@@ -13,28 +13,28 @@ returns-then-falling-eq0 t c = grind (arith, nat_tests, contract_none)
 pub returns-then-figural : goal.returns-then-figural
 returns-then-figural t c = grind (arith, nat_tests, contract_step)
 
-pub returns-in_default : goal.returns-in_default
-returns-in_default t c = grind (arith, nat_tests, contract_step)
+pub returns-in_err-next : goal.returns-in_err-next
+returns-in_err-next t c = grind (arith, nat_tests, contract_step)
 
 pub returns-then-single : goal.returns-then-single
 returns-then-single t c =
-    let f = c.in-Some.ensures in
+    let f = c.in_ok-next.ensures in
     let behind = f.put.behind in
     record { text = f.word; is = grind (arith, nat_tests, contract_step); put = f.put; on = omega arith; within = omega arith; low = omega (arith, f.short) }
 
-pub returns-in_default-write_scale : goal.returns-in_default-write_scale
-returns-in_default-write_scale t c = grind (arith, nat_tests, contract_step)
+pub returns-in_err-behind : goal.returns-in_err-behind
+returns-in_err-behind t c = grind (arith, nat_tests, contract_step)
 
-pub returns-in_default-write_at : goal.returns-in_default-write_at
-returns-in_default-write_at t c = grind (arith, nat_tests, contract_step)
+pub returns-in_err-behind-2 : goal.returns-in_err-behind-2
+returns-in_err-behind-2 t c = grind (arith, nat_tests, contract_step)
 
 pub returns-then-not-pair : goal.returns-then-not-pair
 returns-then-not-pair t c =
-    let f = c.in-Some.ensures in
-    let s = c.in-Some-write_scale.ensures in
-    let x = c.in-Some-write_at.ensures in
+    let f = c.in_ok-next.ensures in
+    let s = c.in_ok-behind.ensures in
+    let x = c.in_ok-behind-2.ensures in
     let node = get_or c.args.nodes.now c.args.at Nothing in
-    let e : Put c.write_at.new.out c.put_word.new.out c.in-Some-write_at.next (behind_word node) c.put_word.result = put_as c.ending.ensures c.put_word.ensures in
+    let e : Put c.write_at.new.out c.put_word.new.out c.in_ok-behind-2.next (behind_word node) c.put_word.result = put_as c.ending.ensures c.put_word.ensures in
     record {
       text = f.word ++ (s.text ++ (x.text ++ behind_word node));
       is = grind (arith, nat_tests, contract_step);
@@ -44,19 +44,19 @@ returns-then-not-pair t c =
       low = omega (arith, f.short, f.put.behind, s.low, x.low, e.behind, behind_short node);
     }
 
-pub returns-in_default-write_at-2 : goal.returns-in_default-write_at-2
-returns-in_default-write_at-2 t c = grind (arith, nat_tests, contract_step)
+pub returns-in_err-behind-3 : goal.returns-in_err-behind-3
+returns-in_err-behind-3 t c = grind (arith, nat_tests, contract_step)
 
 pub returns : goal.returns
 returns t c =
-    let f = c.in-Some.ensures in
-    let s = c.in-Some-write_scale.ensures in
-    let x = c.in-Some-write_at.ensures in
-    let y = c.in-Some-write_at-2.ensures in
+    let f = c.in_ok-next.ensures in
+    let s = c.in_ok-behind.ensures in
+    let x = c.in_ok-behind-2.ensures in
+    let y = c.in_ok-behind-3.ensures in
     let node = get_or c.args.nodes.now c.args.at Nothing in
-    let m : Put c.write_at.new.out c.put_word-next.new.out c.in-Some-write_at.next (between_word node) c.put_word-next.result =
+    let m : Put c.write_at.new.out c.put_word-next.new.out c.in_ok-behind-2.next (between_word node) c.put_word-next.result =
     put_as c.middle.ensures c.put_word-next.ensures in
-    let e : Put c.write_at-2.new.out c.put_word-2.new.out c.in-Some-write_at-2.next (behind_word node) c.put_word-2.result =
+    let e : Put c.write_at-2.new.out c.put_word-2.new.out c.in_ok-behind-3.next (behind_word node) c.put_word-2.result =
     put_as c.ending-2.ensures c.put_word-2.ensures in
     record {
       text = f.word ++ (s.text ++ (x.text ++ (between_word node ++ (y.text ++ behind_word node))));

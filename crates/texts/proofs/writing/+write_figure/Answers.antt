@@ -13,12 +13,12 @@ returns-then-falling-eq0 t c = grind (arith, nat_tests, figure_none)
 pub returns-then-not-figural : goal.returns-then-not-figural
 returns-then-not-figural t c = grind (arith, nat_tests, figure_step)
 
-pub returns-in_default : goal.returns-in_default
-returns-in_default t c = grind (arith, nat_tests, figure_step)
+pub returns-in_err-next : goal.returns-in_err-next
+returns-in_err-next t c = grind (arith, nat_tests, figure_step)
 
 pub returns-then-single : goal.returns-then-single
 returns-then-single t c =
-    let f = c.in-Some.ensures in
+    let f = c.in_ok-next.ensures in
     let behind = f.put.behind in
     record {
       text = f.word;
@@ -29,21 +29,21 @@ returns-then-single t c =
       low = omega (arith, f.short);
     }
 
-pub returns-in_default-write_figure : goal.returns-in_default-write_figure
-returns-in_default-write_figure t c = grind (arith, nat_tests, figure_step)
+pub returns-in_err-behind : goal.returns-in_err-behind
+returns-in_err-behind t c = grind (arith, nat_tests, figure_step)
 
-pub returns-in_default-write_figure-2 : goal.returns-in_default-write_figure-2
-returns-in_default-write_figure-2 t c = grind (arith, nat_tests, figure_step)
+pub returns-in_err-behind-2 : goal.returns-in_err-behind-2
+returns-in_err-behind-2 t c = grind (arith, nat_tests, figure_step)
 
 pub returns : goal.returns
 returns t c =
-    let f = c.in-Some.ensures in
-    let x = c.in-Some-write_figure.ensures in
-    let y = c.in-Some-write_figure-2.ensures in
+    let f = c.in_ok-next.ensures in
+    let x = c.in_ok-behind.ensures in
+    let y = c.in_ok-behind-2.ensures in
     let node = get_or c.args.nodes.now c.args.at Nothing in
-    let m : Put c.write_figure.new.out c.put_word-next.new.out c.in-Some-write_figure.next (between_word node) c.put_word-next.result =
+    let m : Put c.write_figure.new.out c.put_word-next.new.out c.in_ok-behind.next (between_word node) c.put_word-next.result =
     put_as c.middle.ensures c.put_word-next.ensures in
-    let e : Put c.write_figure-2.new.out c.put_word.new.out c.in-Some-write_figure-2.next (behind_word node) c.put_word.result =
+    let e : Put c.write_figure-2.new.out c.put_word.new.out c.in_ok-behind-2.next (behind_word node) c.put_word.result =
     put_as c.ending.ensures c.put_word.ensures in
     record {
       text = f.word ++ (x.text ++ (between_word node ++ (y.text ++ behind_word node)));

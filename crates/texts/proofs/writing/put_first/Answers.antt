@@ -3,21 +3,9 @@ use Rattle.std.proofs.lemmas.Bool.{leb-true}
 use Rattle.std.proofs.lemmas.Int.{to_z-of_z}
 use Rattle.texts.specs.Spelling.{first_word}
 use Rattle.texts.specs.Written.{written_number, written_amount}
-use Rattle.texts.proofs.FirstWords.{first_pays, first_lost, first_fixed, first_fixed_lost, first_rate, first_on, first_by, pays_short, rate_short, day_short}
+use Rattle.texts.proofs.FirstWords.{first_pays, first_fixed, first_rate, first_on, first_by, pays_short, rate_short, day_short}
 use Rattle.texts.proofs.Laying.{amount_length}
 use Rattle.texts.proofs.writing.put_first.Goals as goal
-
-pub returns-then-not-held : goal.returns-then-not-held
-returns-then-not-held c =
-    let fits : SFits w64 c.in-Pays.a = search rules in
-    let lost : c.held.result ≡ leb (nat_abs c.in-Pays.a) 9223372036854775807 = simp to_z-of_z at c.held.ensures in
-    ap first_word c.in-Pays.is ∙ first_lost c.in-Pays.k c.in-Pays.a (sym lost ∙ c.if-not-held.true)
-
-pub returns-then-not-held-2 : goal.returns-then-not-held-2
-returns-then-not-held-2 c =
-    let fits : SFits w64 c.in-Fixed.a = search rules in
-    let lost : c.held-in-Fixed.result ≡ leb (nat_abs c.in-Fixed.a) 9223372036854775807 = simp to_z-of_z at c.held-in-Fixed.ensures in
-    ap first_word c.in-Fixed.is ∙ first_fixed_lost c.in-Fixed.a (sym lost ∙ c.if-not-held-2.true)
 
 pub returns-else-not-held : goal.returns-else-not-held
 returns-else-not-held c =

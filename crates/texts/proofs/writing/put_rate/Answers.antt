@@ -1,9 +1,6 @@
 use Rattle.std.proofs.Common.{arith}
-use Rattle.texts.proofs.Laying.{put_then, word_length, put_rate_none, put_rate_some}
+use Rattle.texts.proofs.Laying.{put_then, word_length, put_rate_some}
 use Rattle.texts.proofs.writing.put_rate.Goals as goal
-
-pub returns-then-n-eq0 : goal.returns-then-n-eq0
-returns-then-n-eq0 c = put_rate_none c.args.k c.args.n c.if-n-eq0.true (put_then c.put_word-next.ensures c.put_number-next.ensures)
 
 pub put_word-next-requires-2 : goal.put_word-next-requires-2
 put_word-next-requires-2 c = omega (arith, c.put_number-next.ensures.behind, word_length c.args.k (omega arith), c.put_word-next.ensures.behind)

@@ -7,8 +7,8 @@ use Rattle.texts.proofs.writing.write_scale.Goals as goal
 
 pub returns : goal.returns
 returns c =
-    let x = c.in-Some.ensures in
-    let s : Put c.write_figure.new.out c.put_word.new.out c.in-Some.next (scale_word c.args.node) c.put_word.result = put_as c.scaling.ensures c.put_word.ensures in
+    let x = c.in_ok-behind.ensures in
+    let s : Put c.write_figure.new.out c.put_word.new.out c.in_ok-behind.next (scale_word c.args.node) c.put_word.result = put_as c.scaling.ensures c.put_word.ensures in
     record {
       text = x.text ++ scale_word c.args.node;
       is = grind (arith, nat_tests);

@@ -1,7 +1,9 @@
-use Rattle.std.proofs.Common.{length, get_or, sym, ap, ◌∙◌}
-use Rattle.std.proofs.lemmas.List.{get_or-take}
+use Rattle.std.proofs.Common.{◌≡◌, get_or, ap, ◌∙◌, rules}
 use Rattle.texts.specs.declared.nodes.Node.TheVariants.{Nothing}
+use Rattle.texts.proofs.Rows.{holds_all}
 use Rattle.texts.proofs.nodes.Tree.node.Goals as goal
 
-pub returns-then-i-lt256 : goal.returns-then-i-lt256
-returns-then-i-lt256 c ns h few near = sym (get_or-take (length ns) c.args.self.now.nodes c.args.i Nothing near) ∙ ap (λ l. get_or l c.args.i Nothing) (h.all few)
+pub returns : goal.returns
+returns c ns h few near =
+    let held : c.unwrap_or.result ≡ get_or c.deref.result.now c.args.i Nothing = search rules in
+    held ∙ ap (λ l. get_or l c.args.i Nothing) (c.deref.ensures.0 ∙ holds_all h few)
