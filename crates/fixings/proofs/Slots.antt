@@ -1,13 +1,14 @@
 -- Words of days lie side by side, and the days that are still looked at have words of their own.
 use Rattle.std.proofs.Common.{◌≡◌, ℕ, suc, ◌+◌, ◌-◌, ◌*◌, ◌%◌, ◌<◌, ◌≤◌, ◌≢◌, ◌⊎◌, List, [], ◌∷◌, ◌++◌, length, get_or, ℤ, pos, sym, refl, ap, ◌∙◌, subst, inl, inr, ⊎_elim, suc-mul, arith}
 use Rattle.std.proofs.lemmas.Nat.{mul-le}
-use Rattle.std.proofs.lemmas.List.{length-append, get_or_append_left}
+use borrow.Rule.Slice.PartMut.{put_mid}
+use Rattle.std.proofs.lemmas.List.{length-append, length-take, length-drop, get_or_append_left, places}
 use Rattle.std.proofs.lemmas.Bool.{cases_eq, cases_lt, le-leb, lt-leb}
 use Rattle.deals.specs.Contract.{Day, no_day, value, rate}
 use Rattle.fixings.specs.Fixings.{slot, HoldsRates}
 
 -- a day's words end where the next one's begin, at the latest
-row_end : (q p n : ℕ) → q < p → q * n + n ≤ p * n
+pub row_end : (q p n : ℕ) → q < p → q * n + n ≤ p * n
 row_end q p n lt = omega (arith, suc-mul q n, mul-le (suc q) n p n lt (omega arith))
 
 pub slot_within : (q n k : ℕ) → q < 4097 → k < n → q * n + k < 4097 * n
@@ -46,3 +47,14 @@ rate_before words n ds t k b many few near past h = rw (le-leb b t past) (h.rate
 pub rate_none : (ds : List Day) (t k b : ℕ) → t < b → pos 0 ≡ value ds t (rate k b)
 unfolding value
 rate_none ds t k b lt = rw (lt-leb b t lt)
+
+-- some words written over those from a place on
+module _ (words rates : List ℤ) (first many : ℕ) (long : length rates ≡ many) (within : first + many ≤ length words) where
+  pub put_length : length (put_mid first many words rates) ≡ length words
+  put_length = simp (length-append, length-take, length-drop) (omega arith)
+
+  pub put_there : (k : ℕ) → k < many → get_or (put_mid first many words rates) (first + k) (pos 0) ≡ get_or rates k (pos 0)
+  put_there k lt = grind (arith, places)
+
+  pub put_apart : (i : ℕ) → (i < first) ⊎ (first + many ≤ i) → get_or (put_mid first many words rates) i (pos 0) ≡ get_or words i (pos 0)
+  put_apart i apart = grind (arith, places)

@@ -8,15 +8,12 @@ use mornings::places::rate_at;
 
 const DAYS: usize = 4097;
 
-// The words of a day, if there is room for all days.
+// The words of a day, if there is room for all days. The words are lent, so the number of rates and the day stand beside them, here and below.
 fn first_word(words: &[i64], n: u16, day: u32) -> Option<usize>
     ensures { MatchOption result (length words.now < 4097 * n) (λ w. (4097 * n ≤ length words.now) × (w ≡ day % 4097 * n)) }
 {
     let n = n as usize;
-    if words.len() < DAYS * n {
-        return None;
-    }
-    Some(day as usize % DAYS * n)
+    (DAYS * n <= words.len()).then_some(day as usize % DAYS * n)
 }
 
 // The rates of a day, which stand in a morning's bytes from a place on, take the place of those of 4,097 days before. Where there is no room, or no such bytes, nothing more is written.
@@ -26,11 +23,12 @@ pub fn keep_rates(words: &mut [i64], n: u16, day: u32, bytes: &[u8], at: usize)
     let Some(first) = first_word(words, n, day) else {
         return;
     };
-    for k in 0..n as usize {
+    // The bytes by number: what is written through `zip` is not known afterwards.
+    for (k, word) in words[first..first + n as usize].iter_mut().enumerate() {
         if bytes.len() < 8 || at > bytes.len() - 8 || 8 * k > bytes.len() - 8 - at {
             return;
         }
-        words[first + k] = rate_at(bytes, at + 8 * k);
+        *word = rate_at(bytes, at + 8 * k);
     }
 }
 

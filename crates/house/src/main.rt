@@ -2,12 +2,12 @@
 #![tactic(auto)]
 
 use anyhow::anyhow;
-use mornings::{Start, judge_morning, judge_start, numbered};
+use mornings::{Start, judge_morning, judge_start};
 use std::env::Args;
 use std::{env, fs};
 use texts::stages::Stage;
 
-// The bytes of a file.
+// The bytes of a file. So in `plain`: of what a file gives a library could promise nothing.
 fn bytes_of(rt: &HostRuntime, name: &str) -> anyhow::Result<Vec<u8>> {
     match fs::read(rt, name) {
         Ok(bytes) => Ok(bytes),
@@ -27,15 +27,13 @@ fn mornings(rt: &HostRuntime, start: Start, names: Args) -> anyhow::Result<()> {
                 day = day.saturating_add(1);
                 so_far = so_far.saturating_add(ends.deals as u32);
             }
-            Err(e) => {
-                let (number, place) = numbered(e);
-                println!(rt; "refused {number} at {place}")?;
-            }
+            Err(e) => println!(rt; "{e}")?,
         }
     }
     Ok(())
 }
 
+// The start, and then the mornings. So in `plain`: what is done with each morning differs.
 fn run(rt: &HostRuntime) -> anyhow::Result<()> {
     let mut names = env::args(rt)?;
     let _program = names.next();
@@ -45,11 +43,7 @@ fn run(rt: &HostRuntime) -> anyhow::Result<()> {
     let bytes = bytes_of(rt, name.as_str())?;
     match judge_start(bytes.as_slice()) {
         Ok(start) => mornings(rt, start, names),
-        Err(e) => {
-            let (number, place) = numbered(e);
-            println!(rt; "refused {number} at {place}")?;
-            Ok(())
-        }
+        Err(e) => Ok(println!(rt; "{e}")?),
     }
 }
 

@@ -3,11 +3,12 @@
 
 ghost use Rattle.std.specs.Prelude.{◌<◌};
 
-use mornings::{Ends, Refusal, judge_morning, judge_start, numbered};
+use mornings::{Ends, Refusal, judge_morning, judge_start};
+use octets::Word;
 use std::io;
 use texts::stages::Stage;
 
-// The worth of a hexadecimal digit, 0 for others.
+// The worth of a hexadecimal digit, 0 for others. It stands in `plain_lines` too: a program can't use another, and a library of this alone is no plainer.
 fn digit(b: u8) -> u8
     ensures { result < 16 }
 {
@@ -29,8 +30,8 @@ fn judge(bytes: &[u8]) -> Result<Ends, Refusal> {
         Stage::All
     };
     let start = judge_start(&bytes[1..6])?;
-    let day = u32::from_le_bytes([bytes[6], bytes[7], bytes[8], bytes[9]]);
-    let so_far = u32::from_le_bytes([bytes[10], bytes[11], bytes[12], bytes[13]]);
+    let day = u32::read(bytes, 6);
+    let so_far = u32::read(bytes, 10);
     judge_morning(&bytes[14..], start, day, so_far, stage)
 }
 
@@ -47,10 +48,7 @@ fn main(rt: HostRuntime) -> io::Result<()> {
                 let choices = ends.choices;
                 println!(rt; "taken, {deals} deals, {choices} choices")?
             }
-            Err(e) => {
-                let (number, place) = numbered(e);
-                println!(rt; "refused {number} at {place}")?
-            }
+            Err(e) => println!(rt; "{e}")?,
         }
     }
     Ok(())

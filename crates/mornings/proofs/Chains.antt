@@ -9,7 +9,8 @@ use Rattle.mornings.specs.Written.{head_octets, deal_octets, choice_octets, Wrot
 use Rattle.mornings.specs.Payments.{payment_bytes}
 use Rattle.mornings.specs.Laws.{PiecesStand}
 use Rattle.mornings.specs.declared.payments.Payment.{Payment}
-use Rattle.mornings.proofs.Puts.{put_next, set_put}
+use Rattle.octets.proofs.Words.{set_put}
+use Rattle.mornings.proofs.Puts.{put_next}
 
 -- a copy into a part
 copy_put : (s bs text : List ℕ) (i : ℕ) → bs ≡ text → put_mid i (i + length text - i) s bs ≡ put s i text

@@ -46,7 +46,7 @@ choice_fits s i c j (goes (right _ h) (goes {a = n} {j = k} (right _ l) (goes {a
     subst ChoiceFits z (record { deal = h; long = short; steps = row_all (λ b. b ≤ 1) (λ _. StepRead) s (λ _ i b j. step_fits s i b j) _ 0 _ way to r })
 
 -- where the last deal has a number, there is room for all
-deals_room : (stage : Stage) (st : Start) (day : ℕ) (s : List ℕ) (n c i : ℕ) (ds : List Deal) (j : ℕ) → c ≤ 65536 → Row n (DealRead stage st day) c s i (taken ds j) → c + n ≤ 65536
+pub deals_room : (stage : Stage) (st : Start) (day : ℕ) (s : List ℕ) (n c i : ℕ) (ds : List Deal) (j : ℕ) → c ≤ 65536 → Row n (DealRead stage st day) c s i (taken ds j) → c + n ≤ 65536
 deals_room stage st day s zero c i ds j le e = omega arith
 deals_room stage st day s (suc n) c i ds j le (goes (few lt _) (goes {a = ys} {j = to} r e)) = let h = deals_room stage st day s n (suc c) _ ys to (omega arith) r in omega arith
 

@@ -11,7 +11,7 @@ use Rattle.mornings.specs.Judgement.{a_contract, few, DealRead, RateRead, StepRe
 use Rattle.mornings.specs.Places.{deal_at, rate_at, choice_at, IsDeal, IsChoice}
 use Rattle.mornings.specs.Laws.{HandedOut, Walks, Walked}
 use Rattle.mornings.specs.declared.Start.{Start}
-use Rattle.mornings.proofs.Fields.{word_1}
+use Rattle.octets.proofs.Words.{word_1}
 use Rattle.mornings.proofs.Fits.{row_length}
 use Rattle.mornings.proofs.Rows.{row_next}
 
@@ -56,7 +56,7 @@ steps_are (suc n) c i j s way le (goes (right h p) (goes {a = ts} {j = to} r e))
     let j-is : j ≡ to = cc in
     let rest = steps_are n (suc c) (i + 1) to s ts h r in
     let lt : i < length s = omega arith in
-    (ap (take (suc n)) (drop_more s i 0 lt) ∙ ap (λ b. b ∷ field n s (i + 1)) (word_1 s i lt) ∙ ap (λ z. word 1 s i ∷ z) rest.0 ∙ sym way-is, omega (arith, rest.1), omega (arith, rest.2))
+    (ap (take (suc n)) (drop_more s i 0 lt) ∙ ap (λ b. b ∷ field n s (i + 1)) (word_1 s i (omega arith)) ∙ ap (λ z. word 1 s i ∷ z) rest.0 ∙ sym way-is, omega (arith, rest.1), omega (arith, rest.2))
 
 choice_handed : (i j : ℕ) (s : List ℕ) (c : Choice) → ChoiceRead s i (taken c j) → IsChoice s (choice_at s i) c j
 choice_handed i j s c (goes (right h1 p1) (goes (right h2 p2) (goes {a = way} {j = to} r e))) =

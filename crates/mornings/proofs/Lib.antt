@@ -14,3 +14,4 @@ pub mod Fits
 pub mod Handed
 pub mod Local
 pub mod Paid
+pub mod Writing

@@ -1,11 +1,8 @@
 -- Payments one behind the other. Assumes nothing.
-use Rattle.std.proofs.Common.{◌≡◌, ℕ, zero, suc, ◌+◌, ◌*◌, ◌^◌, ◌<◌, Bool, true, false, ◌&&◌, eqb, ◌≢◌, List, [], ◌∷◌, ◌++◌, map, length, get_or, take, drop, ℤ, pos, ◌+ℤ◌, neg_ℤ, sym, refl, ap, ◌∙◌, subst, ap₂, append_assoc, arith, take-append-drop}
+use Rattle.std.proofs.Common.{◌≡◌, ℕ, zero, suc, ◌+◌, ◌*◌, ◌^◌, ◌<◌, List, [], ◌∷◌, ◌++◌, map, length, get_or, take, drop, sym, refl, ap, ◌∙◌, subst, ap₂, append_assoc, arith, take-append-drop}
 use Rattle.std.specs.List.{AllByRecursion, range_with_len}
 use Rattle.std.proofs.lemmas.List.{length-append, length-take-le, take_at, drop_at, flat_map_more}
-use Rattle.deals.specs.Contract.{pick}
-use Rattle.deals.specs.Payments.{Payment as Paid, paid, one_paid}
-use Rattle.deals.proofs.Owed.{sides}
-use Rattle.deals.proofs.Sums.{swap_middle}
+use Rattle.deals.proofs.Payments.{paid_two_sided}
 use Rattle.octets.specs.Octets.{octets_of, word, put}
 use Rattle.octets.proofs.Words.{length_octets}
 use Rattle.mornings.specs.Payments.{payment_bytes, payments_bytes, payment_at, PaymentFits, OneMore, ReadAgain, paid_as, payments_in, BytesSay, BytesTwoSided}
@@ -108,19 +105,6 @@ pub bytes_say : BytesSay
 bytes_say s ps f held =
     let same = numbered (λ k. paid_as (payment_at s (13 * k))) paid_as ps 0 (λ k d lt. let e : 13 * (0 + k) ≡ 13 * k = omega arith in ap (λ i. paid_as (payment_at s i)) e ∙ ap paid_as (read_again s ps k d f held lt)) in
     (same, subst (AllByRecursion (λ p. 0 < p.amount)) (sym same) (all_above ps f))
-
-sides_if : (t : Bool) (payer payee a b : ℕ) (v : ℤ) → a ≢ b →
-    pick (t && (eqb payer a && eqb payee b)) v (pick (t && (eqb payee a && eqb payer b)) (neg_ℤ v) (pos 0))
-    +ℤ pick (t && (eqb payer b && eqb payee a)) v (pick (t && (eqb payee b && eqb payer a)) (neg_ℤ v) (pos 0))
-    ≡ pos 0
-sides_if true payer payee a b v ne = sides payer payee a b v ne
-sides_if false payer payee a b v ne = refl
-
-paid_two_sided : (k a b : ℕ) → a ≢ b → (ps : List Paid) → paid k a b ps +ℤ paid k b a ps ≡ pos 0
-unfolding paid one_paid
-paid_two_sided k a b ne [] = refl
-paid_two_sided k a b ne (p ∷ ps) =
-    swap_middle _ (paid k a b ps) _ (paid k b a ps) ∙ ap₂ ◌+ℤ◌ (sides_if (eqb p.currency k) p.from p.to a b (pos p.amount) ne) (paid_two_sided k a b ne ps)
 
 pub bytes_two_sided : BytesTwoSided
 bytes_two_sided n s k a b ne = paid_two_sided k a b ne (payments_in n s)

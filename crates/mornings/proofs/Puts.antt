@@ -1,7 +1,7 @@
 -- Bytes written behind one another. Assumes nothing.
-use Rattle.std.proofs.Common.{◌≡◌, ℕ, suc, ◌+◌, ◌%◌, ◌<◌, ◌≤◌, List, ◌++◌, length, take, drop, set, sym, ap, ◌∙◌, subst, append_assoc, arith}
-use Rattle.std.proofs.lemmas.List.{length-append, length-take-le, take_at, drop_at, drop-drop, set_split}
-use Rattle.octets.specs.Octets.{octets_of, put}
+use Rattle.std.proofs.Common.{◌≡◌, ℕ, ◌+◌, ◌≤◌, List, ◌++◌, length, take, drop, sym, ap, ◌∙◌, subst, append_assoc, arith}
+use Rattle.std.proofs.lemmas.List.{length-append, length-take-le, take_at, drop_at, drop-drop}
+use Rattle.octets.specs.Octets.{put}
 
 module _ (s : List ℕ) (i : ℕ) (bs cs : List ℕ) (room : i + length bs + length cs ≤ length s) where
   front : length (take i s ++ bs) ≡ i + length bs
@@ -19,14 +19,6 @@ module _ (s : List ℕ) (i : ℕ) (bs cs : List ℕ) (room : i + length bs + len
       ap (λ a. a ++ (cs ++ drop (i + length bs + length cs) (put s i bs))) before
       ∙ ap (λ z. (take i s ++ bs) ++ (cs ++ z)) after ∙ append_assoc (take i s) bs (cs ++ drop (i + length (bs ++ cs)) s)
       ∙ ap (λ z. take i s ++ z) (sym (append_assoc bs cs (drop (i + length (bs ++ cs)) s)))
-
--- one byte written
-pub set_put : (s : List ℕ) (i b : ℕ) → i < length s → b < 256 → set s i b ≡ put s i (octets_of 1 b)
-unfolding octets_of
-set_put s i b h small =
-    let e : b % 256 ≡ b = omega arith in
-    let n : i + 1 ≡ suc i = omega arith in
-    rw (e, n) (set_split s i b h)
 
 -- a write at the place behind another
 pub put_next : (s : List ℕ) (i j : ℕ) (bs cs : List ℕ) → i + length bs ≡ j → j + length cs ≤ length s → put (put s i bs) j cs ≡ put s i (bs ++ cs)

@@ -1,5 +1,5 @@
 -- Which bytes are a start or a morning, and where others are first in fault. Assumes nothing: these are definitions.
-use Rattle.std.specs.Prelude.{◌≡◌, ℕ, ◌+◌, ◌<◌, ◌≤◌, true, false, ◌≢◌, List, length, drop, ℤ, Result, MatchResult, unsigned_abs}
+use Rattle.std.specs.Prelude.{◌≡◌, ℕ, zero, suc, ◌+◌, ◌<◌, ◌≤◌, Bool, true, false, ◌≢◌, List, length, drop, ℤ, Result, Ok, Err, MatchResult, unsigned_abs}
 use Rattle.std.specs.Int.{w64}
 use Rattle.std.proofs.Common.{to_z}
 use Rattle.deals.specs.Contract.{Contract, Deal, Choice, Morning}
@@ -25,9 +25,19 @@ fault_of (TooMany p) = fault 4 p
 abbrev pub Reads : {A : Type 0} → Reading A → List ℕ → ℕ → Result (A × ℕ) Refusal → Type 0
 Reads R s i r = MatchResult r (λ p. R s i (taken p.0 p.1)) (λ e. R s i (refused (fault_of e)))
 
+-- the same of a number, where a function was handed in that tests which values are right
+abbrev pub ReadsTested : {A : Type 0} → ℕ → (ℕ → A) → (A → Bool → Type 0) → List ℕ → ℕ → Result (A × ℕ) Refusal → Type 0
+ReadsTested {A} n means Tests s i r = (test : A → Bool) → ((a : A) (b : Bool) → Tests a b → b ≡ test a) → Reads (Field n means (λ a. test a ≡ true)) s i r
+
 -- the same, where the value is not kept
 abbrev pub Passes : {A : Type 0} → Reading A → List ℕ → ℕ → Result ℕ Refusal → Type 0
 Passes {A} R s i r = MatchResult r (λ to. (a : A) × R s i (taken a to)) (λ e. R s i (refused (fault_of e)))
+
+-- so many parts in a row were read, by their number and each from where the one before ended: where the last ended, or the first refusal. Answers is what may be answered for one
+pub data RowRuns (Answers : ℕ → ℕ → Result ℕ Refusal → Type 0) : ℕ → ℕ → ℕ → Result ℕ Refusal → Type 0 where
+  all : {c i : ℕ} → RowRuns Answers zero c i (Ok i)
+  next : {n c i j : ℕ} {r : Result ℕ Refusal} → Answers c i (Ok j) → RowRuns Answers n (suc c) j r → RowRuns Answers (suc n) c i r
+  stops : {n c i : ℕ} {e : Refusal} → Answers c i (Err e) → RowRuns Answers (suc n) c i (Err e)
 
 -- any number will do
 abbrev pub Any : ℕ → Type 0

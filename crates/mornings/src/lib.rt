@@ -3,11 +3,13 @@
 
 ghost use Rattle.std.specs.Prelude.{◌≡◌};
 ghost use Rattle.mornings.specs.Verdict.{fault};
+ghost use Rattle.texts.specs.Bounds.{refusal_number, refusal_place};
 ghost use Rattle.mornings.specs.Laws.{OneVerdict, HandedOut, Walked, WrittenTaken, EveryTaken, PiecesStand, PiecesJudged, TakenFits, NeverSame, FrontToBack};
 ghost use Rattle.mornings.specs.Judgement.{fault_of, StartJudged, MorningJudged};
 
 mod head;
 mod numbers;
+pub mod pairs;
 mod parts;
 pub mod payments;
 pub mod places;
@@ -15,6 +17,8 @@ pub mod writers;
 
 use numbers::{byte_up_to, end, short, short_up_to};
 use parts::{Today, choices, deals, rates, too_many};
+use std::fmt;
+use texts::reading::TextRefusal;
 use texts::stages::Stage;
 
 // Why bytes are refused, each with the place of the byte in fault: no contract's text; a limit of contracts passed; no start or morning; a deal or a morning too many.
@@ -26,7 +30,7 @@ pub enum Refusal {
     TooMany(usize),
 }
 
-// The number of a refusal, from 1 to 4, and its place.
+// The number of a refusal, from 1 to 4, and its place: the rules name refusals by number.
 pub fn numbered(e: Refusal) -> (u8, usize)
     ensures { fault_of e ≡ fault result.0 result.1 }
 {
@@ -38,8 +42,27 @@ pub fn numbered(e: Refusal) -> (u8, usize)
     }
 }
 
+impl fmt::Display for Refusal {
+    fn fmt<W: fmt::Write>(&self, f: &mut fmt::Formatter<W>) -> fmt::Result {
+        let (number, place) = numbered(*self);
+        write!(f, "refused {number} at {place}")
+    }
+}
+
+// A refusal of a text is one of the morning that it stands in.
+impl From<TextRefusal> for Refusal {
+    ghost from_gives = { λ e r. fault_of r ≡ fault (refusal_number e) (refusal_place e) };
+
+    fn from(e: TextRefusal) -> Refusal {
+        match e {
+            TextRefusal::NoContract(p) => Refusal::NoContract(p),
+            TextRefusal::Limit(p) => Refusal::Limit(p),
+        }
+    }
+}
+
 // How many houses, rates and currencies there are.
-#[derive(Clone, Copy)]
+#[derive(Clone, Copy, Default)]
 pub struct Start {
     pub houses: u16,
     pub rates: u16,
@@ -99,7 +122,7 @@ pub fn judge_morning(
 }
 
 // What is true of starts and mornings in bytes.
-pub fn laws_stand() -> u8
+pub fn laws_stand()
     ensures one { OneVerdict }
     ensures handed { HandedOut }
     ensures walked { Walked }
@@ -110,6 +133,4 @@ pub fn laws_stand() -> u8
     ensures bounds { TakenFits }
     ensures apart { NeverSame }
     ensures front { FrontToBack }
-{
-    0
-}
+{}

@@ -2,7 +2,7 @@
 ghost use Rattle.std.specs.Prelude.{◌≡◌, ◌+◌, ◌<◌, ◌≤◌, length, MatchBool, MatchResult, ◌==◌};
 ghost use Rattle.texts.specs.Bounds.{refusal_number, refusal_place};
 ghost use Rattle.mornings.specs.Verdict.{fault, refused, Row};
-ghost use Rattle.mornings.specs.Judgement.{fault_of, Passes, TextRead, DealFields, DealRead, RateRead, StepRead, ChoiceRead};
+ghost use Rattle.mornings.specs.Judgement.{fault_of, Passes, RowRuns, TextRead, DealFields, DealRead, RateRead, StepRead, ChoiceRead};
 
 use crate::numbers::{byte_up_to, house, long_from, other_house, rate, short};
 use crate::{Refusal, Start, numbered};
@@ -18,16 +18,23 @@ pub struct Today {
     pub stage: Stage,
 }
 
-// The steps of a way.
-fn steps(bytes: &[u8], at: usize, n: u8) -> Result<usize, Refusal>
-    ensures { Passes (Row n (λ _. StepRead) 0) bytes.now at result }
+// So many parts in a row: each is read by a function, from where the one before ended.
+fn row<F: Fn(usize) -> Result<usize, Refusal>>(at: usize, n: u16, part: F) -> Result<usize, Refusal>
+    requires { F.IsAlwaysCallable part }
+    ensures { RowRuns (λ _ i r. F.post part i r) n 0 at result }
 {
     let mut to = at;
     for _k in 0..n {
-        let (_step, next) = byte_up_to(bytes, to, 1)?;
-        to = next;
+        to = part(to)?;
     }
     Ok(to)
+}
+
+// A step of a way.
+fn step(bytes: &[u8], at: usize) -> Result<usize, Refusal>
+    ensures { Passes StepRead bytes.now at result }
+{
+    Ok(byte_up_to(bytes, at, 1)?.1)
 }
 
 // A choice: the number of a deal, and a way.
@@ -36,43 +43,24 @@ fn choice(bytes: &[u8], at: usize) -> Result<usize, Refusal>
 {
     let (_deal, length_at) = long_from(bytes, at, 0)?;
     let (n, steps_at) = byte_up_to(bytes, length_at, 64)?;
-    steps(bytes, steps_at, n)
+    row(steps_at, n as u16, |to| step(bytes, to))
 }
 
 // So many choices in a row.
 pub(crate) fn choices(bytes: &[u8], at: usize, n: u16) -> Result<usize, Refusal>
     ensures { Passes (Row n (λ _. ChoiceRead) 0) bytes.now at result }
 {
-    let mut to = at;
-    for _k in 0..n {
-        to = choice(bytes, to)?;
-    }
-    Ok(to)
+    row(at, n, |to| choice(bytes, to))
 }
 
 // All rates.
 pub(crate) fn rates(bytes: &[u8], at: usize, n: u16) -> Result<usize, Refusal>
     ensures { Passes (Row n (λ _. RateRead) 0) bytes.now at result }
 {
-    let mut to = at;
-    for _k in 0..n {
-        let (_rate, next) = rate(bytes, to)?;
-        to = next;
-    }
-    Ok(to)
+    row(at, n, |to| Ok(rate(bytes, to)?.1))
 }
 
-// The refusal of the reader of texts, as one of a morning.
-fn of_text(e: TextRefusal) -> Refusal
-    ensures { fault_of result ≡ fault (refusal_number e) (refusal_place e) }
-{
-    match e {
-        TextRefusal::NoContract(p) => Refusal::NoContract(p),
-        TextRefusal::Limit(p) => Refusal::Limit(p),
-    }
-}
-
-// The refusal of a text that passes the end.
+// The refusal of a text that passes the end. It says each case: behind `_` nothing would be known of what was read. Here and below `tree` is lent on beside `today`: a struct of both would have each function promise that it lends the same tree.
 fn cut_text(bytes: &[u8], at: usize, n: usize, today: Today, tree: &mut Tree) -> Refusal
     requires within { at ≤ length bytes.now }
     requires small { n ≤ 8192 }
@@ -81,17 +69,15 @@ fn cut_text(bytes: &[u8], at: usize, n: usize, today: Today, tree: &mut Tree) ->
 {
     let start = today.start;
     match read_part(bytes, at, bytes.len(), start.rates, start.currencies, tree) {
-        Ok(_) => Refusal::NoMorning(bytes.len()),
-        Err(e) => match e {
-            TextRefusal::Limit(_p) => Refusal::NoMorning(bytes.len()),
-            TextRefusal::NoContract(p) => {
-                if p < bytes.len() {
-                    Refusal::NoContract(p)
-                } else {
-                    Refusal::NoMorning(bytes.len())
-                }
+        Ok(()) => Refusal::NoMorning(bytes.len()),
+        Err(TextRefusal::Limit(_p)) => Refusal::NoMorning(bytes.len()),
+        Err(TextRefusal::NoContract(p)) => {
+            if p < bytes.len() {
+                Refusal::NoContract(p)
+            } else {
+                Refusal::NoMorning(bytes.len())
             }
-        },
+        }
     }
 }
 
@@ -107,16 +93,11 @@ fn text(bytes: &[u8], at: usize, n: usize, today: Today, tree: &mut Tree) -> Res
         return Err(cut_text(bytes, at, n, today, tree));
     }
     let start = today.start;
-    match read_part(bytes, at, at + n, start.rates, start.currencies, tree) {
-        Ok(_) => {
-            if built(tree, today.stage) {
-                Ok(at + n)
-            } else {
-                Err(Refusal::NoContract(at))
-            }
-        }
-        Err(e) => Err(of_text(e)),
+    read_part(bytes, at, at + n, start.rates, start.currencies, tree)?;
+    if !built(tree, today.stage) {
+        return Err(Refusal::NoContract(at));
     }
+    Ok(at + n)
 }
 
 // A deal that has a number.
@@ -135,11 +116,8 @@ pub(crate) fn too_many(first: Result<(u16, usize), Refusal>, at: usize) -> Refus
     ensures { MatchResult first (λ _. result ≡ Refusal.TooMany at) (λ e. MatchBool ((fault_of e).place == at) (result ≡ e) (result ≡ Refusal.TooMany at)) }
 {
     match first {
-        Ok(_) => Refusal::TooMany(at),
-        Err(e) => {
-            let (_number, place) = numbered(e);
-            if place == at { e } else { Refusal::TooMany(at) }
-        }
+        Err(e) if numbered(e).1 == at => e,
+        _ => Refusal::TooMany(at),
     }
 }
 
@@ -159,7 +137,7 @@ fn deal(
     deal_fields(bytes, at, today, tree)
 }
 
-// So many deals in a row, numbered behind those so far; one tree serves all of their texts.
+// So many deals in a row, numbered behind those so far; one tree serves all of their texts. So this is a loop and no `row`: a closure that is lent the tree changes with each call, and nothing would be known of the bytes that it holds.
 pub(crate) fn deals(
     bytes: &[u8],
     at: usize,

@@ -4,7 +4,11 @@ ghost use Rattle.octets.specs.Octets.{put};
 ghost use Rattle.mornings.specs.Payments.{payment_bytes, payment_at, OneMore, ReadAgain, BytesTwoSided, BytesSay};
 
 use crate::head::write_head;
-use octets::{read_u16, read_u64, write_u64};
+use octets::Word;
+use std::fmt;
+
+// How many bytes a payment takes.
+pub const PAYMENT: usize = 13;
 
 // An amount, above 0, that one house pays another.
 #[derive(Clone, Copy)]
@@ -15,14 +19,26 @@ pub struct Payment {
     pub amount: u64,
 }
 
+impl fmt::Display for Payment {
+    fn fmt<W: fmt::Write>(&self, f: &mut fmt::Formatter<W>) -> fmt::Result {
+        let Payment {
+            from,
+            to,
+            currency,
+            amount,
+        } = *self;
+        write!(f, "from {from} to {to} currency {currency} amount {amount}")
+    }
+}
+
 // Writes payment number `k`; all other bytes stay as they are.
 pub fn write_payment(out: &mut [u8], k: usize, p: Payment)
     requires { 13 * k + 13 ≤ length out.old }
     ensures { out.new ≡ put out.old (13 * k) (payment_bytes p) }
 {
-    let at = 13 * k;
+    let at = PAYMENT * k;
     write_head(out, at, p.from, p.to, p.currency);
-    write_u64(out, at + 5, p.amount);
+    p.amount.write(out, at + 5);
 }
 
 // Payment number `k`.
@@ -30,21 +46,19 @@ pub fn read_payment(bytes: &[u8], k: usize) -> Payment
     requires { 13 * k + 13 ≤ length bytes.now }
     ensures { result ≡ payment_at bytes.now (13 * k) }
 {
-    let at = 13 * k;
+    let at = PAYMENT * k;
     Payment {
-        from: read_u16(bytes, at),
-        to: read_u16(bytes, at + 2),
+        from: u16::read(bytes, at),
+        to: u16::read(bytes, at + 2),
         currency: bytes[at + 4],
-        amount: read_u64(bytes, at + 5),
+        amount: u64::read(bytes, at + 5),
     }
 }
 
 // What is true of payments in bytes.
-pub fn payments_stand() -> u8
+pub fn payments_stand()
     ensures more { OneMore }
     ensures again { ReadAgain }
     ensures says { BytesSay }
     ensures sides { BytesTwoSided }
-{
-    0
-}
+{}

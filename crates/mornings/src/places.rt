@@ -1,11 +1,11 @@
 // Hands out the parts of a judged morning, one after the other.
-ghost use Rattle.std.specs.Prelude.{◌≡◌, ◌+◌, ◌≤◌, length};
+ghost use Rattle.std.specs.Prelude.{◌≡◌, ◌+◌, ◌<◌, ◌≤◌, length, MatchOption};
 ghost use Rattle.mornings.specs.Places.{deal_at, rate_at, choice_at};
 
-use octets::{read_i64, read_u16, read_u32};
+use octets::Word;
 
 // A deal, with the place at which its text begins and the one behind its last byte, at which the next deal stands.
-#[derive(Clone, Copy)]
+#[derive(Clone, Copy, Default)]
 pub struct DealAt {
     pub holder: u16,
     pub other: u16,
@@ -28,12 +28,23 @@ pub fn deal_at(bytes: &[u8], at: usize) -> DealAt
     ensures { result ≡ deal_at bytes.now at }
 {
     DealAt {
-        holder: read_u16(bytes, at),
-        other: read_u16(bytes, at + 2),
-        day: read_u32(bytes, at + 4),
+        holder: u16::read(bytes, at),
+        other: u16::read(bytes, at + 2),
+        day: u32::read(bytes, at + 4),
         text_at: at + 10,
-        text_end: at + 10 + read_u16(bytes, at + 8) as usize,
+        text_end: at + 10 + u16::read(bytes, at + 8) as usize,
     }
+}
+
+// The deal at a place, if its text ends within the bytes.
+pub fn whole_deal_at(bytes: &[u8], at: usize) -> Option<DealAt>
+    ensures { MatchOption result (length bytes.now < (deal_at bytes.now at).text_end) (λ d. (d ≡ deal_at bytes.now at) × (d.text_end ≤ length bytes.now)) }
+{
+    if at > bytes.len().checked_sub(10)? {
+        return None;
+    }
+    let deal = deal_at(bytes, at);
+    (deal.text_end <= bytes.len()).then_some(deal)
 }
 
 // The rate at a place; the next one stands eight bytes further on.
@@ -41,7 +52,7 @@ pub fn rate_at(bytes: &[u8], at: usize) -> i64
     requires { at + 8 ≤ length bytes.now }
     ensures { result ≡ rate_at bytes.now at }
 {
-    read_i64(bytes, at)
+    i64::read(bytes, at)
 }
 
 // The choice at a place.
@@ -50,7 +61,7 @@ pub fn choice_at(bytes: &[u8], at: usize) -> ChoiceAt
     ensures { result ≡ choice_at bytes.now at }
 {
     ChoiceAt {
-        deal: read_u32(bytes, at),
+        deal: u32::read(bytes, at),
         way_at: at + 5,
         way_end: at + 5 + bytes[at + 4] as usize,
     }

@@ -4,5 +4,5 @@ use Rattle.mornings.proofs.head.write_head.Goals as goal
 
 pub returns : goal.returns
 returns c =
-    head_put c.args.out.now c.write_u16.new.s c.write_u16-2.new.s c.args.at c.args.a c.args.b c.args.c
-    (omega arith) (search rules) c.write_u16.ensures c.write_u16-2.ensures
+    head_put c.args.out.now c.write.new.s c.write-2.new.s c.args.at c.args.a c.args.b c.args.c
+    (omega arith) (search rules) c.write.ensures c.write-2.ensures

@@ -3,7 +3,6 @@ use Rattle.std.proofs.lemmas.Result.{err_from_is_err_and}
 use Rattle.mornings.specs.Verdict.{stops, goes}
 use Rattle.mornings.specs.Judgement.{TextRead, DealFields}
 use Rattle.mornings.proofs.Answered.{passes_as}
-use Rattle.mornings.proofs.Fields.{field_within}
 use Rattle.mornings.proofs.parts.deal_fields.Goals as goal
 
 pub returns-in_err-holder : goal.returns-in_err-holder
@@ -21,9 +20,6 @@ returns-in_err-_day c =
 pub returns-in_err-n : goal.returns-in_err-n
 returns-in_err-n c =
     let p = err_from_is_err_and c.from_residual-in_err-n.result c.from_residual-in_err-n.ensures.1 in rw (p.1, p.2) (goes c.in_ok-holder.ensures (goes c.in_ok-_other.ensures (goes c.in_ok-_day.ensures (stops c.in_err-n.ensures))))
-
-pub text-requires : goal.text-requires
-text-requires c = field_within c.in_ok-n.ensures
 
 pub returns : goal.returns
 returns c =

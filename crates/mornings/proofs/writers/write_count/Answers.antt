@@ -2,4 +2,4 @@ use Rattle.mornings.proofs.Chains.{word_put}
 use Rattle.mornings.proofs.writers.write_count.Goals as goal
 
 pub returns : goal.returns
-returns c = word_put 2 c.args.out.now _ c.args.at c.args.n c.write_u16.ensures
+returns c = word_put 2 c.args.out.now _ c.args.at c.args.n c.write.ensures

@@ -7,5 +7,5 @@ use Rattle.mornings.proofs.writers.write_rate.Goals as goal
 pub returns : goal.returns
 returns c =
     let f : SFits w64 c.args.rate = search rules in
-    subst (λ v. Wrote c.args.out.now c.args.at (rate_octets v) c.write_i64.new.s (c.args.at + 8)) (to_z-of_z w64 c.args.rate f)
-    (word_put 8 c.args.out.now _ c.args.at _ c.write_i64.ensures)
+    subst (λ v. Wrote c.args.out.now c.args.at (rate_octets v) c.write.new.s (c.args.at + 8)) (to_z-of_z w64 c.args.rate f)
+    (word_put 8 c.args.out.now _ c.args.at _ c.write.ensures)
