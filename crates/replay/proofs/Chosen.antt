@@ -6,9 +6,7 @@ use Rattle.std.proofs.lemmas.Bool.{lt-ltb, le-ltb}
 use Rattle.octets.specs.Octets.{field}
 use Rattle.mornings.specs.Places.{choice_at}
 use Rattle.replay.specs.Choices.{way_bits, choice_in, is_for, chosen_from}
-
-pred_of : (n : ℕ) → suc n - 1 ≡ n
-pred_of n = omega arith
+use Rattle.replay.proofs.Steps.{pred_of}
 
 module _ (s : List ℕ) (c : ℕ) (w : Way) where
   pub chosen_zero : (n at : ℕ) → n ≡ 0 → chosen_from s n at c w ≡ false

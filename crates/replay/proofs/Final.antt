@@ -1,25 +1,26 @@
 -- What is paid by the keys of all deals is what the meaning says.
-use Rattle.std.proofs.Common.{◌≡◌, ℕ, zero, suc, ◌+◌, ◌-◌, ◌*◌, ◌/◌, ◌%◌, ◌<◌, ◌≤◌, Bool, true, false, ◌&&◌, eqb, List, [], ◌∷◌, map, length, get_or, set, ℤ, pos, ◌+ℤ◌, neg_ℤ, filter, sym, refl, ap, ◌∙◌, subst, ap₂, add-one, arith}
+use Rattle.std.proofs.Common.{◌≡◌, ℕ, zero, suc, ◌+◌, ◌-◌, ◌*◌, ◌/◌, ◌%◌, ◌<◌, ◌≤◌, Bool, true, false, ◌&&◌, eqb, List, [], ◌∷◌, map, length, get_or, ℤ, pos, ◌+ℤ◌, neg_ℤ, filter, sym, refl, ap, ◌∙◌, subst, ap₂, add-one, arith}
 use lib.IntN.{+ℤ_idl}
-use Rattle.std.specs.List.{range_with_len, swap, AllByRecursion}
-use Rattle.std.specs.List.Sorted.{apply_swaps, IsPermutation, IsNonDecreasingBy, IsNonDecreasing}
+use Rattle.std.specs.List.{range_with_len, AllByRecursion}
+use Rattle.std.specs.List.Sorted.{IsPermutation, IsNonDecreasingBy, IsNonDecreasing}
 use Rattle.std.proofs.ByRecursion.{All-get_or, all_shuffled}
-use Rattle.std.proofs.lemmas.List.{length-map, map-set, get_or-map}
+use Rattle.std.proofs.lemmas.List.{length-map, get_or-map}
 use Rattle.std.proofs.lemmas.List.Sorted.{length_permutation}
-use Rattle.std.proofs.lemmas.Bool.Decides.{nat_tests}
-use Rattle.deals.specs.Contract.{Day, Deal, Flow, pick, flows, on_that_day, owed}
+use Rattle.deals.specs.Contract.{Day, Deal, Flow, larger, pick, flows, on_that_day, owed}
 use Rattle.deals.specs.Promise.{size, all_of, ContractFits}
 use Rattle.deals.specs.Residual.{come_to}
 use Rattle.deals.specs.House.{Owes, House, one_between, come_between, pays_now}
-use Rattle.deals.specs.Lines.{all_lines}
+use Rattle.deals.specs.Lines.{pair, all_lines}
+use Rattle.deals.specs.Sleep.{smaller}
 use Rattle.deals.specs.Payments.{written, payments, low_of, high_of, pair_of, paired, grouped, nobody, deals_at, Between}
+use Rattle.deals.proofs.Morning.{shuffled_map}
 use Rattle.deals.proofs.Payments.{paired_is_paid_lem}
 use Rattle.deals.proofs.Sizes.{size_is, size_add, flows_size, RatesSmall}
 use Rattle.replay.specs.declared.dues.Due.{Due}
 use Rattle.replay.specs.declared.listing.DealIn.{DealIn}
 use Rattle.replay.specs.Meaning.{dues_on, due_of, as_due}
 use Rattle.replay.specs.Order.{pair_in, key_of, keys_from}
-use Rattle.replay.specs.Payments.{as_bytes}
+use Rattle.mornings.specs.Pairs.{as_bytes}
 use Rattle.replay.specs.Settle.{owed_by, grouped_payments}
 use Rattle.replay.proofs.OnDay.{moves_below}
 
@@ -90,24 +91,6 @@ owe_size rs cs ds c k d small early f =
     )
 
 -- IN ORDER
-
-getD_map_any : {A B : Type 0} (g : A → B) (xs : List A) (i : ℕ) (d : A) → get_or (map g xs) i (g d) ≡ g (get_or xs i d)
-getD_map_any g [] i d = refl
-getD_map_any g (x ∷ xs) zero d = refl
-getD_map_any g (x ∷ xs) (suc i) d = getD_map_any g xs i d
-
-map_exchanged : {A B : Type 0} (g : A → B) (xs : List A) (i j : ℕ) → map g (swap xs i j) ≡ swap (map g xs) i j
-map_exchanged g [] i j = refl
-map_exchanged g (d ∷ xs) i j =
-    map-set g (set (d ∷ xs) i (get_or (d ∷ xs) j d)) j (get_or (d ∷ xs) i d)
-    ∙ ap₂ (λ l v. set l j v) (map-set g (d ∷ xs) i (get_or (d ∷ xs) j d) ∙ ap (set (map g (d ∷ xs)) i) (sym (getD_map_any g (d ∷ xs) j d))) (sym (getD_map_any g (d ∷ xs) i d))
-
-map_moved : {A B : Type 0} (g : A → B) (xs : List A) (ps : List (ℕ × ℕ)) → map g (apply_swaps xs ps) ≡ apply_swaps (map g xs) ps
-map_moved g xs [] = refl
-map_moved g xs (p ∷ ps) = map_exchanged g (apply_swaps xs ps) p.0 p.1 ∙ ap (λ l. swap l p.0 p.1) (map_moved g xs ps)
-
-shuffled_map : {A B : Type 0} (g : A → B) (xs ys : List A) → IsPermutation xs ys → IsPermutation (map g xs) (map g ys)
-shuffled_map g xs ys s = record { moves = s.moves; below = rw (length-map xs g) s.below; is = ap (map g) s.is ∙ map_moved g xs s.moves }
 
 kept_all : (xs : List ℕ) → filter (λ c. true) xs ≡ xs
 kept_all [] = refl
@@ -202,6 +185,6 @@ paid_is_net ps cs f due keys few coins between is same up =
     never : true ≡ false → ⊥
     never e = grind arith
 
-pub pair_same : (y : DealIn) (o : Owes) → y.holder ≡ o.holder → y.other ≡ o.other → pair_in y ≡ pair_of o
+pub pair_same : (y : DealIn) (o : Owes) → y.at.holder ≡ o.holder → y.at.other ≡ o.other → pair_in y ≡ pair_of o
 unfolding pair_in pair_of low_of high_of
-pair_same y o h g = grind (arith, nat_tests, h, g)
+pair_same y o h g = ap₂ (λ a b. pair (smaller a b) (larger a b)) h g

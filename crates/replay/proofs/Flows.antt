@@ -1,6 +1,8 @@
 -- What flows under a contract by its nodes is what flows under it.
 use Rattle.std.proofs.Common.{◌≡◌, ℕ, ◌+◌, ◌-◌, ◌<◌, ◌≤◌, not, ◌&&◌, eqb, ltb, leb, List, [], ◌∷◌, ◌++◌, map, length, sym, refl, ap, ◌∙◌, arith, length-append}
 use Rattle.std.proofs.ByRecursion.{All-append}
+use Rattle.std.specs.Option.{option_map}
+use Rattle.replay.specs.First.{found}
 use Rattle.deals.specs.Contract.{Figure, Contract, nothing, pays, turned, both, choice, either, scaled, on_day, when, by_day, Day, Path, pick, value, is_zero, chosen, flows, first_day, scaled_flows}
 use Rattle.deals.specs.Promise.{limit, moves, FigureFits, PartsFit}
 use Rattle.deals.proofs.Sizes.{RatesSmall, value_size, flows_size}
@@ -15,14 +17,14 @@ use Rattle.replay.specs.Figure.{figure_at}
 use Rattle.replay.specs.Dues.{lift_due}
 use Rattle.replay.specs.Choices.{way_of, stepped}
 use Rattle.replay.specs.First.{true_on, taken_on}
-use Rattle.replay.specs.Flow.{Seen, inside, from_found, flow_of, flow_at}
+use Rattle.replay.specs.Flow.{Seen, inside, goes_on, next_of, flow_of, flow_at}
 use Rattle.replay.specs.Meaning.{RatesAre, Bits, ChosenAre, dues_on}
 use Rattle.replay.proofs.Steps.{flow_step}
 use Rattle.replay.proofs.Passing.{Stands, stands_here, stands_next, stands_left, stands_right, behind_is, passes_figure, passes_contract}
 use Rattle.replay.proofs.Figures.{figure_means, capped_same, amount_same}
 use Rattle.replay.proofs.Ways.{way_step}
 use Rattle.replay.proofs.Firsts.{first_same}
-use Rattle.replay.proofs.OnDay.{dues_append, dues_turned, dues_scaled, gate, branch, none_on, from_both, pays_on, small_flows, small_products, moves_below}
+use Rattle.replay.proofs.OnDay.{dues_append, dues_turned, dues_scaled, gate, branch, none_on, goes_branch, goes_one, goes_first, pays_on, small_flows, small_products, moves_below}
 
 bits_more : (p : Path) (b : ℕ) → Bits p → b ≤ 1 → Bits (p ++ b ∷ [])
 bits_more p b h g = All-append (λ z. z ≤ 1) p (b ∷ []) h (g, tt)
@@ -80,7 +82,7 @@ module _ (ds : List Day) (rs cs c u : ℕ) (s : Seen) (known : s.known ≡ lengt
   fronted e i n m ms h = front (i + 1) (n - 1) (figure_nodes e) ms (next i n m (figure_nodes e ++ ms) h)
 
   pub flow_means : (x : Contract) → PartsFit rs cs x → Means x
-  unfolding flows flow_of PartsFit true_on taken_on moves
+  unfolding flows flow_of next_of PartsFit true_on taken_on moves
   flow_means nothing f i n t p h at = here i n t p _ [] at ∙ none_on u
   flow_means (pays k a) f i n t p h at =
       here i n t p _ [] at ∙ ap (λ z. pick (eqb t u && ltb t z) (record { currency = capped k; amount = capped_amount a } ∷ []) []) known
@@ -102,7 +104,9 @@ module _ (ds : List Day) (rs cs c u : ℕ) (s : Seen) (known : s.known ≡ lengt
       (back (i + 1) (n - 1) (nodes_of x) (nodes_of y) rest) in
       let yes = into n i t p (behind node (i + 1)) t 1 in
       let no = into n i t p (i + 1) t 0 in
-      here i n t p _ (nodes_of x ++ nodes_of y) at ∙ ap (λ z. pick (ltb t z) (pick (s.chose t (way_of p)) yes no) []) known
+      here i n t p _ (nodes_of x ++ nodes_of y) at
+      ∙ goes_branch (ltb t s.known) (s.chose t (way_of p)) (inside (part i t p) (behind node (i + 1)) t 1) (inside (part i t p) (i + 1) t 0) (flow_at s u (n - 1))
+      ∙ ap (λ z. pick (ltb t z) (pick (s.chose t (way_of p)) yes no) []) known
       ∙ gate u t (length ds) (pick (s.chose t (way_of p)) yes no) (pick (chosen ds t c p) (flows ds c (p ++ 1 ∷ []) y t) (flows ds c (p ++ 0 ∷ []) x t))
       (λ lt. ap (λ z. pick z yes no) (chose t p lt h) ∙ branch u (chosen ds t c p) yes no (flows ds c (p ++ 1 ∷ []) y t) (flows ds c (p ++ 0 ∷ []) x t) two one)
   flow_means (either e x y) f i n t p h at =
@@ -117,7 +121,9 @@ module _ (ds : List Day) (rs cs c u : ℕ) (s : Seen) (known : s.known ≡ lengt
       let other = into n i t p (behind node (behind node (i + 1))) t 1 in
       let main = into n i t p (behind node (i + 1)) t 0 in
       let v = figure_at s.rates node t 256 (i + 1) in
-      here i n t p _ (figure_nodes e ++ xs) at ∙ ap (λ z. pick (ltb t z) (pick (is_zero v) other main) []) known
+      here i n t p _ (figure_nodes e ++ xs) at
+      ∙ goes_branch (ltb t s.known) (is_zero v) (inside (part i t p) (behind node (behind node (i + 1))) t 1) (inside (part i t p) (behind node (i + 1)) t 0) (flow_at s u (n - 1))
+      ∙ ap (λ z. pick (ltb t z) (pick (is_zero v) other main) []) known
       ∙ gate u t (length ds) (pick (is_zero v) other main) (pick (is_zero (value ds t e)) (flows ds c (p ++ 1 ∷ []) y t) (flows ds c (p ++ 0 ∷ []) x t))
       (λ lt. ap (λ z. pick (is_zero z) other main) (worth e f.0 t (i + 1) (n - 1) lt (fronted e i n _ xs at))
       ∙ branch u (is_zero (value ds t e)) other main (flows ds c (p ++ 1 ∷ []) y t) (flows ds c (p ++ 0 ∷ []) x t) two one)
@@ -134,7 +140,7 @@ module _ (ds : List Day) (rs cs c u : ℕ) (s : Seen) (known : s.known ≡ lengt
       ∙ sym (dues_scaled u (value ds t e) (flows ds c (p ++ 0 ∷ []) x t)
       (small_products (moves x) (limit e) (value ds t e) _ (omega (arith, f.2)) (value_size ds t small (omega arith) e) (λ k. flows_size k ds c small early x (p ++ 0 ∷ []) t))))
   flow_means (on_day d x) f i n t p h at =
-      here i n t p _ (nodes_of x) at ∙ ap (λ z. pick (leb t z) (flow_at s u (n - 1) (inside (part i t p) (i + 1) z 0)) []) (capped_same d (omega (arith, f.0)))
+      here i n t p _ (nodes_of x) at ∙ goes_one (leb t (capped d)) (inside (part i t p) (i + 1) (capped d) 0) (flow_at s u (n - 1)) ∙ ap (λ z. pick (leb t z) (flow_at s u (n - 1) (inside (part i t p) (i + 1) z 0)) []) (capped_same d (omega (arith, f.0)))
       ∙ branch u (leb t d) _ [] (flows ds c (p ++ 0 ∷ []) x d) [] (sub x (flow_means x f.1) i t d (i + 1) (i + 1) (n - 1) 0 p h (omega arith) refl (next i n _ (nodes_of x) at)) (none_on u)
   flow_means (when e x) f i n t p h at =
       let rest = next i n _ (figure_nodes e ++ nodes_of x) at in
@@ -142,16 +148,18 @@ module _ (ds : List Day) (rs cs c u : ℕ) (s : Seen) (known : s.known ≡ lengt
       let begun : (v : ℕ) → flow_at s u (n - 1) (inside (part i t p) (behind node (i + 1)) v 0) ≡ dues_on u (flows ds c (p ++ 0 ∷ []) x v) =
       λ v. sub x (flow_means x f.1) i t v (behind node (i + 1)) j (n - 1) 0 p h (omega arith) (over_figure e (i + 1) (n - 1) (nodes_of x) rest)
       (back (i + 1) (n - 1) (figure_nodes e) (nodes_of x) rest) in
-      let main : ℕ → List Due = λ v. into n i t p (behind node (i + 1)) v 0 in
-      here i n t p _ (figure_nodes e ++ nodes_of x) at ∙ ap (λ z. from_found (first_day (true_on s.rates node (i + 1)) t (z - t)) main) known
-      ∙ ap (λ z. from_found z main) (first_same (true_on s.rates node (i + 1)) (λ v. not (is_zero (value ds v e))) t (length ds - t)
+      let main : ℕ → Part = λ v. inside (part i t p) (behind node (i + 1)) v 0 in
+      let go = flow_at s u (n - 1) in
+      here i n t p _ (figure_nodes e ++ nodes_of x) at ∙ ap (λ z. goes_on (option_map main (found (first_day (true_on s.rates node (i + 1)) t (z - t)))) go) known
+      ∙ ap (λ z. goes_on (option_map main (found z)) go) (first_same (true_on s.rates node (i + 1)) (λ v. not (is_zero (value ds v e))) t (length ds - t)
       (λ v le lt. ap (λ z. not (is_zero z)) (worth e f.0 v (i + 1) (n - 1) (omega arith) (fronted e i n _ (nodes_of x) at))))
-      ∙ from_both u _ main (λ v. flows ds c (p ++ 0 ∷ []) x v) begun
+      ∙ goes_first u _ main go (λ v. flows ds c (p ++ 0 ∷ []) x v) begun
   flow_means (by_day d x) f i n t p h at =
-      let main : ℕ → List Due = λ v. into n i t p (i + 1) v 0 in
-      here i n t p _ (nodes_of x) at ∙ ap (λ z. from_found (first_day (taken_on s.chose z (way_of p)) t (s.known - t)) main) (capped_same d (omega (arith, f.0)))
-      ∙ ap (λ z. from_found (first_day (taken_on s.chose d (way_of p)) t (z - t)) main) known
-      ∙ ap (λ z. from_found z main) (first_same (taken_on s.chose d (way_of p)) (λ v. leb v d && chosen ds v c p) t (length ds - t)
+      let main : ℕ → Part = λ v. inside (part i t p) (i + 1) v 0 in
+      let go = flow_at s u (n - 1) in
+      here i n t p _ (nodes_of x) at ∙ ap (λ z. goes_on (option_map main (found (first_day (taken_on s.chose z (way_of p)) t (s.known - t)))) go) (capped_same d (omega (arith, f.0)))
+      ∙ ap (λ z. goes_on (option_map main (found (first_day (taken_on s.chose d (way_of p)) t (z - t)))) go) known
+      ∙ ap (λ z. goes_on (option_map main (found z)) go) (first_same (taken_on s.chose d (way_of p)) (λ v. leb v d && chosen ds v c p) t (length ds - t)
       (λ v le lt. ap (λ z. leb v d && z) (chose v p (omega arith) h)))
-      ∙ from_both u _ main (λ v. flows ds c (p ++ 0 ∷ []) x v)
+      ∙ goes_first u _ main go (λ v. flows ds c (p ++ 0 ∷ []) x v)
       (λ v. sub x (flow_means x f.1) i t v (i + 1) (i + 1) (n - 1) 0 p h (omega arith) refl (next i n _ (nodes_of x) at))

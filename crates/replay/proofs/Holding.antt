@@ -1,31 +1,51 @@
 -- What a row of amounts holds after one more, or after some came out above.
-use Rattle.std.proofs.Common.{◌≡◌, ℕ, zero, suc, ◌+◌, ◌-◌, ◌<◌, ◌≤◌, min, List, [], ◌∷◌, ◌++◌, map, length, get_or, take, drop, set, sym, refl, ap, ◌∙◌, subst, append_assoc, arith, length-append, take-append-drop}
-use lib.ListN.{length-map}
-use Rattle.std.proofs.lemmas.List.{take_more_set, set_at, get_or_at, take_at}
+use Rattle.std.proofs.Common.{◌≡◌, ℕ, zero, suc, ◌+◌, ◌-◌, ◌<◌, ◌≤◌, min, List, [], ◌∷◌, ◌++◌, map, length, get_or, take, drop, set, sym, refl, ap, ◌∙◌, subst, append_assoc, arith, length-append, Result, Ok, Err, IsOk, OnOk, OnErr, length-take, append-nil}
+use Rattle.std.proofs.Math.Seq.{take-nil}
+use Rattle.std.specs.List.{refill}
+use Rattle.std.proofs.lemmas.List.{set_at, get_or_at, take_at, take-map}
+use Rattle.arrayvec.specs.ArrayVec.{ArrayVec}
 use Rattle.replay.specs.declared.dues.Due.{Due}
 use Rattle.replay.specs.declared.dues.Dues.{Dues}
 use Rattle.replay.specs.declared.dues.Above.{Above}
 use Rattle.replay.specs.Dues.{Held, Adds, Lifts, lift_due, no_due}
 
-pub push_room : (row : List Due) (count : ℕ) (d : Due) → length row ≡ 256 → count < 256 →
-    Adds (record { items = row; count = count }) (record { items = set row count d; count = count + 1 }) (d ∷ [])
-push_room row count d long room xs h =
-    let many = h.many in
-    let here : count ≡ length xs = omega arith in
-    let more : length (xs ++ d ∷ []) ≡ length xs + 1 = length-append xs (d ∷ []) in
-    let fits : length xs ≤ 256 = omega arith in
-    let inside : count < length row = omega arith in
-    let same : length (xs ++ d ∷ []) ≡ count + 1 = omega arith in
-    record {
-      many = omega arith;
-      all = λ few. ap (λ n. take n (set row count d)) same ∙ take_more_set row count d inside ∙ ap (λ v. v ++ d ∷ []) (ap (λ n. take n row) here ∙ h.all fits);
-    }
+take_both : (n : ℕ) (xs ys : List Due) → take n (xs ++ ys) ≡ take n xs ++ take (n - length xs) ys
+take_both n [] ys = let same : n ≡ n - 0 = omega arith in ap (λ m. take m ys) same ∙ ap (λ z. z ++ take (n - 0) ys) (sym (take-nil n))
+take_both zero (x ∷ xs) ys = let none : 0 ≡ 0 - length (x ∷ xs) = omega arith in ap (λ m. take m ys) none
+take_both (suc n) (x ∷ xs) ys =
+    let same : n - length xs ≡ suc n - length (x ∷ xs) = omega arith in
+    ap (λ z. x ∷ z) (take_both n xs ys ∙ ap (λ m. take n xs ++ take m ys) same)
 
-pub push_full : (row : List Due) (count : ℕ) (d : Due) → 256 ≤ count → Adds (record { items = row; count = count }) (record { items = row; count = 257 }) (d ∷ [])
-push_full row count d full xs h =
-    let many = h.many in
-    let more : length (xs ++ d ∷ []) ≡ length xs + 1 = length-append xs (d ∷ []) in
-    record { many = omega arith; all = λ few. absurd (omega arith) }
+first_of : (xs ys : List Due) → take 257 (xs ++ ys) ≡ take 257 xs ++ take (257 - length xs) ys
+first_of xs ys = take_both 257 xs ys
+
+first_few : (xs : List Due) → length (take 257 xs) ≡ min (length xs) 257
+first_few xs = length-take 257 xs ∙ omega arith
+
+some_first : (n : ℕ) (d : Due) → 0 < n → take n (d ∷ []) ≡ d ∷ []
+some_first zero d h = absurd (omega arith)
+some_first (suc n) d h = ap (λ z. d ∷ z) (take-nil n)
+
+-- one more, if there is room
+pub pushed : {A B : Type 0} (r : Result A B) (was now : ArrayVec Due) (d : Due) (xs : List Due) → (IsOk r → length was.items < 257) → OnOk r (now.items ≡ was.items ++ d ∷ []) →
+    OnErr r (now ≡ was) → OnErr r (length was.items ≡ 257) → was.items ≡ take 257 xs → now.items ≡ take 257 (xs ++ d ∷ [])
+pushed (Ok u) was now d xs room put same full h =
+    let few = first_few xs in
+    let long = ap length h in
+    let less = room refl in
+    put ∙ ap (λ z. z ++ d ∷ []) h ∙ sym (first_of xs (d ∷ []) ∙ ap (λ z. take 257 xs ++ z) (some_first (257 - length xs) d (omega arith)))
+pushed (Err e) was now d xs room put same full h =
+    let few = first_few xs in
+    let long = ap length h in
+    let none : 257 - length xs ≡ 0 = omega arith in
+    ap (λ v. v.items) same ∙ h ∙ sym (first_of xs (d ∷ []) ∙ ap (λ n. take 257 xs ++ take n (d ∷ [])) none ∙ append-nil (take 257 xs))
+
+pub how_many : (d : Dues) (xs : List Due) → Held d xs → length d.items.items ≡ min (length xs) 257
+how_many d xs h = ap length h ∙ first_few xs
+
+-- as many written as there were
+pub refill_all : (row new : List Due) → length new ≡ length row → refill (length row) row new ≡ new
+refill_all row new e = take_at new (drop (length new) row) (length row) e
 
 -- n items from place i on are changed, one after the other
 pub changed : (Due → Due) → List Due → ℕ → ℕ → List Due
@@ -51,26 +71,15 @@ changed_is f xs (y ∷ ys) zs i e =
     ∙ changed_is f (xs ++ f y ∷ []) ys zs (i + 1) (omega arith) ∙ append_assoc xs (f y ∷ []) (map f ys ++ zs)
 
 -- all amounts from a place on came out above
-pub lifted_from : (d d' : Dues) (from end : ℕ) (above : Above) → end ≡ min d.count 256 → d'.count ≡ d.count →
-    d'.items ≡ changed (lift_due above) d.items from (end - from) → Lifts d d' from above
-lifted_from d d' from end above ends counts is xs ys h e =
-    let many = h.many in
+pub lifted_from : (d d' : Dues) (from : ℕ) (above : Above) → d'.items.items ≡ changed (lift_due above) d.items.items from (length d.items.items - from) → Lifts d d' from above
+lifted_from d d' from above is xs ys h e =
     let f = lift_due above in
-    let long = length-append xs ys in
-    let long' = length-append xs (map f ys) in
-    let same = length-map ys f in
-    record {
-      many = omega arith;
-      all = λ few.
-          let few' : length (xs ++ ys) ≤ 256 = omega arith in
-          let at : from ≡ length xs = omega arith in
-          let n : end - from ≡ length ys = omega arith in
-          let rest = drop (length (xs ++ ys)) d.items in
-          let whole : d.items ≡ xs ++ (ys ++ rest) = sym (take-append-drop (length (xs ++ ys)) d.items) ∙ ap (λ z. z ++ rest) (h.all few') ∙ append_assoc xs ys rest in
-          let now : d'.items ≡ (xs ++ map f ys) ++ rest =
-          is ∙ ap (λ z. changed f d.items from z) n ∙ ap (λ z. changed f z from (length ys)) whole ∙ changed_is f xs ys rest from at ∙ sym (append_assoc xs (map f ys) rest) in
-          ap (take (length (xs ++ map f ys))) now ∙ take_at (xs ++ map f ys) rest (length (xs ++ map f ys)) refl;
-    }
+    let n = 257 - length xs in
+    let row : d.items.items ≡ take 257 xs ++ (take n ys ++ []) = h ∙ first_of xs ys ∙ ap (λ z. take 257 xs ++ z) (sym (append-nil (take n ys))) in
+    let at : from ≡ length (take 257 xs) = e ∙ sym (first_few xs) in
+    let many : length d.items.items - from ≡ length (take n ys) = omega (arith, ap length row, length-append (take 257 xs) (take n ys ++ []), length-append (take n ys) [], at) in
+    is ∙ (λ i. changed f (row i) from (many i)) ∙ changed_is f (take 257 xs) (take n ys) [] from at ∙ ap (λ z. take 257 xs ++ z) (append-nil (map f (take n ys)) ∙ sym (take-map f n ys))
+    ∙ sym (first_of xs (map f ys))
 
 pub adds_as : {a b : Dues} (xs ys : List Due) → xs ≡ ys → Adds a b ys → Adds a b xs
 adds_as {a} {b} xs ys e h = subst (Adds a b) (sym e) h

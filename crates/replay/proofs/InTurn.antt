@@ -1,36 +1,32 @@
 -- The deals of mornings, one after the other.
-use Rattle.std.proofs.Common.{◌≡◌, ℕ, zero, suc, ◌+◌, ◌-◌, ◌<◌, ◌≤◌, List, [], ◌∷◌, ◌++◌, length, get_or, take, set, Some, None, Option, sym, refl, ap, ◌∙◌, subst, append_assoc, add-one, arith, length-append}
-use Rattle.std.proofs.lemmas.Bool.{lt-ltb, le-ltb}
+use Rattle.std.proofs.Common.{◌≡◌, ℕ, zero, suc, ◌+◌, ◌-◌, ◌<◌, ◌≤◌, List, [], ◌∷◌, ◌++◌, length, get_or, take, set, Some, None, Option, sym, refl, ap, ◌∙◌, subst, ⊎_elim, append_assoc, add-one, arith, length-append, Result, Ok, Err}
+use Rattle.std.specs.Option.{ok_or}
+use Rattle.replay.specs.declared.settle.Short.{Short}
+use Rattle.replay.specs.declared.settle.Short.TheVariants.{Deals}
+use Rattle.std.proofs.lemmas.Bool.{cases_lt, lt-ltb, le-ltb}
 use Rattle.std.proofs.lemmas.List.{take_more_set, append-nil}
 use Rattle.mornings.specs.Places.{deal_at}
 use Rattle.replay.specs.declared.days.DayAt.{DayAt}
 use Rattle.replay.specs.declared.listing.DealIn.{DealIn}
 use Rattle.replay.specs.Days.{nowhere, bytes_of}
 use Rattle.replay.specs.Listing.{deal_in, DealsRun, AllRun, Listed}
-
-pred_of : (n : ℕ) → suc n - 1 ≡ n
-pred_of n = omega arith
+use Rattle.replay.proofs.Steps.{pred_of}
 
 -- ONE DEAL
 
-pub deal_cut : (s : List ℕ) (at t : ℕ) → length s < at + 10 → deal_in s at t ≡ None
+deal_cut : (s : List ℕ) (at t : ℕ) → length s < at + 10 → deal_in s at t ≡ None
 unfolding deal_in
 deal_cut s at t h = rw (lt-ltb (length s) (at + 10) h)
 
-pub deal_cut_text : (s : List ℕ) (at t : ℕ) → at + 10 ≤ length s → length s < (deal_at s at).text_end → deal_in s at t ≡ None
+deal_cut_text : (s : List ℕ) (at t : ℕ) → at + 10 ≤ length s → length s < (deal_at s at).text_end → deal_in s at t ≡ None
 unfolding deal_in
 deal_cut_text s at t h g = rw (le-ltb (length s) (at + 10) h, lt-ltb (length s) (deal_at s at).text_end g)
 
+pub deal_none : (s : List ℕ) (at t : ℕ) → length s < (deal_at s at).text_end → deal_in s at t ≡ None
+deal_none s at t h = ⊎_elim (λ cut. deal_cut s at t cut) (λ long. deal_cut_text s at t long h) (cases_lt (length s) (at + 10))
+
 abbrev pub deal_as : List ℕ → ℕ → ℕ → DealIn
-deal_as s at t =
-    record {
-      holder = (deal_at s at).holder;
-      other = (deal_at s at).other;
-      day = (deal_at s at).day;
-      morning = t;
-      text_at = at + 10;
-      text_end = (deal_at s at).text_end;
-    }
+deal_as s at t = record { morning = t; at = deal_at s at }
 
 pub deal_whole : (s : List ℕ) (at t : ℕ) → (deal_at s at).text_end ≤ length s → deal_in s at t ≡ Some (deal_as s at t)
 unfolding deal_in
@@ -39,10 +35,10 @@ deal_whole s at t h = let g : at + 10 ≤ length s = omega arith in rw (le-ltb (
 -- A MORNING
 
 pub run_step : (s : List ℕ) (n at t : ℕ) (xs : List DealIn) → 0 < n → DealsRun s n at t xs →
-    (d : DealIn) × (rest : List DealIn) × (deal_in s at t ≡ Some d) × DealsRun s (n - 1) d.text_end t rest × (xs ≡ d ∷ rest)
+    (d : DealIn) × (rest : List DealIn) × (deal_in s at t ≡ Some d) × DealsRun s (n - 1) d.at.text_end t rest × (xs ≡ d ∷ rest)
 unfolding DealsRun
 run_step s zero at t xs p h = absurd (omega arith)
-run_step s (suc n) at t xs p h = (h.0, h.1, h.2, subst (λ m. DealsRun s m h.0.text_end t h.1) (sym (pred_of n)) h.3, h.4)
+run_step s (suc n) at t xs p h = (h.0, h.1, h.2, subst (λ m. DealsRun s m h.0.at.text_end t h.1) (sym (pred_of n)) h.3, h.4)
 
 pub run_end : (s : List ℕ) (n at t : ℕ) (xs : List DealIn) → n ≡ 0 → DealsRun s n at t xs → xs ≡ []
 unfolding DealsRun
@@ -63,28 +59,32 @@ pub listing_start : (s : List ℕ) (t many : ℕ) (was : List DealIn) (from : �
 listing_start s t many was from xs h le =
     record { done = []; rest = xs; all = refl; run = h; many = omega arith; room = le; front = sym (append-nil (take from was)) }
 
-some_other : (o : Option DealIn) (d e : DealIn) → o ≡ Some d → o ≡ Some e → d ≡ e
-some_other o d e p q = cc
+pub same_some : {A : Type 0} (o : Option A) (d e : A) → o ≡ Some d → o ≡ Some e → d ≡ e
+same_some o d e p q = cc
 
 pub listing_more : (s : List ℕ) (t left at : ℕ) (was : List DealIn) (from : ℕ) (xs deals : List DealIn) (count : ℕ) (d : DealIn) → 0 < left → count < length deals → length deals ≡ length was →
-    deal_in s at t ≡ Some d → Listing s t left at was from xs deals count → Listing s t (left - 1) d.text_end was from xs (set deals count d) (count + 1)
+    deal_in s at t ≡ Some d → Listing s t left at was from xs deals count → Listing s t (left - 1) d.at.text_end was from xs (set deals count d) (count + 1)
 listing_more s t left at was from xs deals count d p lt long is l =
     let step = run_step s left at t l.rest p l.run in
-    let same : step.0 ≡ d = some_other (deal_in s at t) step.0 d step.2 is in
+    let same : step.0 ≡ d = same_some (deal_in s at t) step.0 d step.2 is in
     let rest : l.rest ≡ d ∷ step.1 = step.4 ∙ ap (λ z. z ∷ step.1) same in
     record {
       done = l.done ++ d ∷ [];
       rest = step.1;
       all = l.all ∙ ap (λ z. l.done ++ z) rest ∙ sym (append_assoc l.done (d ∷ []) step.1);
-      run = subst (λ z. DealsRun s (left - 1) z.text_end t step.1) same step.3;
+      run = subst (λ z. DealsRun s (left - 1) z.at.text_end t step.1) same step.3;
       many = omega (arith, length-append l.done (d ∷ []), l.many);
       room = omega arith;
       front = take_more_set deals count d lt ∙ ap (λ z. z ++ d ∷ []) l.front ∙ append_assoc (take from was) l.done (d ∷ []);
     }
 
 pub listing_none : (s : List ℕ) (t left at : ℕ) (was : List DealIn) (from : ℕ) (xs deals : List DealIn) (count : ℕ) → 0 < left → Listing s t left at was from xs deals count →
-    ((d : DealIn) → deal_in s at t ≡ Some d → ⊥) → ⊥
-listing_none s t left at was from xs deals count p l never = let step = run_step s left at t l.rest p l.run in never step.0 step.2
+    deal_in s at t ≡ None → ⊥
+listing_none s t left at was from xs deals count p l none =
+    let step = run_step s left at t l.rest p l.run in
+    let some : deal_in s at t ≡ Some step.0 = step.2 in
+    let clash : ◌≡◌ {A = ℕ} 0 1 = cc in
+    omega arith
 
 pub listing_full : (s : List ℕ) (t left at : ℕ) (was : List DealIn) (from : ℕ) (xs deals : List DealIn) (count : ℕ) → 0 < left → length was ≤ count → Listing s t left at was from xs deals count →
     length was < from + length xs
@@ -99,13 +99,21 @@ listing_end s t left at was from xs deals count e l =
     let same : xs ≡ l.done = l.all ∙ ap (λ z. l.done ++ z) none ∙ append-nil l.done in
     (omega (arith, ap length same, l.many), l.room, l.front ∙ ap (λ z. take from was ++ z) (sym same))
 
-pub none_listed : (deals : List DealIn) (count : ℕ) (xs : List DealIn) (r : Option ℕ) (deals' : List DealIn) → Listed deals count xs r deals' → ((n : ℕ) → r ≡ Some n → ⊥) → length deals < count + length xs
-none_listed deals count xs (Some n) deals' h never = absurd (never n refl)
-none_listed deals count xs None deals' h never = h
+pub none_listed : (deals : List DealIn) (count : ℕ) (xs : List DealIn) (r : Option ℕ) (deals' : List DealIn) → Listed deals count xs r deals' → r ≡ None → length deals < count + length xs
+none_listed deals count xs r deals' h e = subst (λ z. Listed deals count xs z deals') e h
 
 pub some_listed : (deals : List DealIn) (count : ℕ) (xs : List DealIn) (r : Option ℕ) (deals' : List DealIn) (n : ℕ) → Listed deals count xs r deals' → r ≡ Some n →
     (n ≡ count + length xs) × (n ≤ length deals) × (take n deals' ≡ take count deals ++ xs)
 some_listed deals count xs r deals' n h e = subst (λ z. Listed deals count xs z deals') e h
+
+-- what a list of deals that found no room makes of an error
+pub ok_none : (o : Option ℕ) (r : Result ℕ Short) (e : Short) → r ≡ ok_or o Deals → r ≡ Err e → (o ≡ None) × (e ≡ Deals)
+ok_none (Some n) r e p q = let z : ok_or (Some n) Deals ≡ Err e = sym p ∙ q in let clash : ◌≡◌ {A = ℕ} 0 1 = cc in absurd (let b : ⊥ = omega arith in b)
+ok_none None r e p q = let z : ◌≡◌ {A = Result ℕ Short} (Err Deals) (Err e) = sym p ∙ q in (refl, cc)
+
+pub ok_some : (o : Option ℕ) (r : Result ℕ Short) (n : ℕ) → r ≡ ok_or o Deals → r ≡ Ok n → o ≡ Some n
+ok_some (Some m) r n p q = let z : ◌≡◌ {A = Result ℕ Short} (Ok m) (Ok n) = sym p ∙ q in let same : m ≡ n = cc in ap Some same
+ok_some None r n p q = let z : ◌≡◌ {A = Result ℕ Short} (Err Deals) (Ok n) = sym p ∙ q in let clash : ◌≡◌ {A = ℕ} 0 1 = cc in absurd (let b : ⊥ = omega arith in b)
 
 -- ALL MORNINGS
 

@@ -91,9 +91,9 @@ chosen_row s c p h (suc n) k i j cs (goes {a = x} {j = to} r (goes {a = xs} {j =
 
 -- a deal that is listed is a deal of the mornings
 pub record Match (st : Start) (kept : List ℕ) (days : List DayAt) (y : DealIn) (d : Deal) : Type 0 where
-  pub holder : y.holder ≡ d.holder
-  pub other : y.other ≡ d.other
-  pub from : y.day ≡ d.from
+  pub holder : y.at.holder ≡ d.holder
+  pub other : y.at.other ≡ d.other
+  pub from : y.at.day ≡ d.from
   pub stands : DealStands st kept days y d.contract
 
 pub Matches : Start → List ℕ → List DayAt → List DealIn → List Deal → Type 0

@@ -9,7 +9,6 @@ pub mod Arms
 pub mod Chosen
 pub mod OnDay
 pub mod Flows
-pub mod Writing
 pub mod InTurn
 pub mod Ordering
 pub mod Adds

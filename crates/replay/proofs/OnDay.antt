@@ -1,6 +1,7 @@
 -- Of some flows those of one day, and how large they can be.
-use Rattle.std.proofs.Common.{◌≡◌, ℕ, zero, suc, ◌*◌, ◌<◌, ◌≤◌, Bool, true, false, ◌&&◌, eqb, ltb, List, [], ◌∷◌, ◌++◌, map, ℤ, ◌*ℤ◌, neg_ℤ, sym, refl, ap, ◌∙◌, ⊎_elim, arith, w64}
+use Rattle.std.proofs.Common.{◌≡◌, ℕ, zero, suc, ◌*◌, ◌<◌, ◌≤◌, Bool, true, false, ◌&&◌, eqb, ltb, List, [], ◌∷◌, ◌++◌, map, ℤ, ◌*ℤ◌, neg_ℤ, Some, None, sym, refl, ap, ◌∙◌, ⊎_elim, arith, w64}
 use Rattle.std.specs.List.{AllByRecursion}
+use Rattle.std.specs.Option.{option_map}
 use Rattle.std.proofs.lemmas.Nat.{mul-le}
 use Rattle.std.proofs.lemmas.Int.{int_wrap_fits}
 use Rattle.std.proofs.lemmas.Bool.{lt-ltb, le-ltb, cases_lt, eq-eqb}
@@ -10,7 +11,9 @@ use Rattle.deals.proofs.Sizes.{size_neg, size_mul}
 use Rattle.replay.specs.declared.dues.Due.{Due}
 use Rattle.replay.specs.declared.dues.Above.TheVariants.{Turn, Scale}
 use Rattle.replay.specs.Dues.{lift_due}
-use Rattle.replay.specs.Flow.{from_found}
+use Rattle.replay.specs.declared.flow.Part.{Part}
+use Rattle.replay.specs.First.{found}
+use Rattle.replay.specs.Flow.{goes_on}
 use Rattle.replay.specs.Meaning.{due_of, dues_on}
 use Rattle.replay.proofs.Figures.{short_fits}
 
@@ -74,10 +77,21 @@ pub none_on : (u : ℕ) → ◌≡◌ {A = List Due} [] (dues_on u [])
 unfolding dues_on
 none_on u = refl
 
-pub from_both : (u z : ℕ) (f : ℕ → List Due) (g : ℕ → List Flow) → ((v : ℕ) → f v ≡ dues_on u (g v)) → from_found z f ≡ dues_on u (from_first z g)
+-- what comes of a part that goes on: one of two, one, or the one that the first of some days gives
+pub goes_branch : (b c : Bool) (p q : Part) (go : Part → List Due) → goes_on (pick b (Some (pick c p q)) None) go ≡ pick b (pick c (go p) (go q)) []
+goes_branch true true p q go = refl
+goes_branch true false p q go = refl
+goes_branch false c p q go = refl
+
+pub goes_one : (b : Bool) (p : Part) (go : Part → List Due) → goes_on (pick b (Some p) None) go ≡ pick b (go p) []
+goes_one true p go = refl
+goes_one false p go = refl
+
+pub goes_first : (u z : ℕ) (begun : ℕ → Part) (go : Part → List Due) (g : ℕ → List Flow) → ((v : ℕ) → go (begun v) ≡ dues_on u (g v)) →
+    goes_on (option_map begun (found z)) go ≡ dues_on u (from_first z g)
 unfolding dues_on from_first
-from_both u zero f g h = refl
-from_both u (suc v) f g h = h v
+goes_first u zero begun go g h = refl
+goes_first u (suc v) begun go g h = h v
 
 -- SIZES
 

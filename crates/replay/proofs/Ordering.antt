@@ -5,7 +5,7 @@ use Rattle.replay.specs.declared.listing.DealIn.{DealIn}
 use Rattle.replay.specs.Order.{key_of, keys_from}
 
 abbrev pub no_deal : DealIn
-no_deal = record { holder = 0; other = 0; day = 0; morning = 0; text_at = 0; text_end = 0 }
+no_deal = record { morning = 0; at = record { holder = 0; other = 0; day = 0; text_at = 0; text_end = 0 } }
 
 pub keys_none : (deals : List DealIn) → ◌≡◌ {A = List ℕ} [] (keys_from 0 (take 0 deals))
 unfolding keys_from

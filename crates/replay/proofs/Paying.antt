@@ -3,7 +3,7 @@ use Rattle.std.proofs.Common.{◌≡◌, ℕ, zero, suc, ◌+◌, ◌-◌, ◌*�
 use lib.IntN.{+ℤ_idl}
 use Rattle.std.specs.Int.{int_wrap}
 use Rattle.std.proofs.lemmas.Int.{int_wrap-add_same, int_wrap_fits}
-use Rattle.std.proofs.lemmas.List.{drop_more, drop_all, length-map, length-take, length-replicate, get_or-take, get_or-replicate, get_or-map}
+use Rattle.std.proofs.lemmas.List.{map-append, drop_more, drop_all, length-map, length-take, length-replicate, get_or-take, get_or-replicate, get_or-map}
 use Rattle.std.proofs.lemmas.Bool.{eq-eqb, ne_eqb}
 use Rattle.deals.specs.Contract.{pick, is_zero}
 use Rattle.deals.specs.Promise.{size}
@@ -15,18 +15,14 @@ use Rattle.deals.specs.Payments.{written, low_of, high_of, pair_of, adds, paired
 use Rattle.deals.proofs.Sums.{pick_cases}
 use Rattle.deals.proofs.Sizes.{size_is, size_add, size_neg}
 use Rattle.mornings.specs.declared.payments.Payment.{Payment}
-use Rattle.replay.specs.Payments.{as_bytes, Written, Zeros, pair_payments, PairPaid}
+use Rattle.mornings.specs.Pairs.{as_bytes, Written, Zeros, pair_payments, PairPaid}
 use Rattle.replay.specs.Adding.{GrownBy}
 use Rattle.replay.specs.Settle.{grouped_payments, owed_by}
 use Rattle.replay.proofs.Figures.{short_fits}
-use Rattle.replay.proofs.Writing.{written_start}
+use Rattle.mornings.proofs.Writing.{written_start}
 
 abbrev paid_lines : List Line → List Payment
 paid_lines ls = map (λ l. as_bytes (written l)) ls
-
-map-append : (xs ys : List Line) → paid_lines (xs ++ ys) ≡ paid_lines xs ++ paid_lines ys
-map-append [] ys = refl
-map-append (x ∷ xs) ys = ap (λ z. as_bytes (written x) ∷ z) (map-append xs ys)
 
 -- HOW MANY
 
@@ -205,7 +201,7 @@ module _ (cs : ℕ) (was : List ℕ) (os : List Owes) (i q count : ℕ) (sums : 
         let rest : p.ps ++ paid_lines (lines ++ more) ≡ grouped_payments cs os = ap (λ z. p.ps ++ paid_lines z) (sym step) ∙ p.rest in
         let ended = paid was p.ps p.f p.done sums_are (subst (λ m. 13 * count + 13 * length (pair_payments m a b p.f) ≤ length was) (sym long) (roomy lines more rest)) in
         let all : (p.ps ++ paid_lines lines) ++ paid_lines more ≡ grouped_payments cs os =
-        append_assoc p.ps (paid_lines lines) (paid_lines more) ∙ ap (λ z. p.ps ++ z) (sym (map-append lines more)) ∙ rest in
+        append_assoc p.ps (paid_lines lines) (paid_lines more) ∙ ap (λ z. p.ps ++ z) (sym (map-append (λ l. as_bytes (written l)) lines more)) ∙ rest in
         record {
           f = adds o;
           ps = p.ps ++ paid_lines lines;

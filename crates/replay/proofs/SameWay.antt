@@ -1,8 +1,9 @@
 -- Two ways are the same if their numbers are.
-use Rattle.std.proofs.Common.{◌≡◌, ℕ, ◌+◌, ◌*◌, ◌%◌, ◌^◌, ◌<◌, ◌≤◌, min, Bool, true, false, ◌&&◌, eqb, [], ◌∷◌, length, sym, refl, ap, ◌∙◌, ap₂, mul_comm, pow-suc, arith, pow_mono}
+use Rattle.std.proofs.Common.{◌≡◌, ℕ, ◌+◌, ◌*◌, ◌%◌, ◌^◌, ◌<◌, ◌≤◌, min, Bool, true, false, ◌&&◌, eqb, [], ◌∷◌, length, sym, refl, ap, ◌∙◌, mul_comm, pow-suc, arith, pow_mono}
 use Rattle.std.proofs.lemmas.Nat.{mul-le}
-use Rattle.std.proofs.lemmas.Bool.{eqb-true, eq-eqb, and_parts, and_from}
+use Rattle.std.proofs.lemmas.Bool.{false_from_ne_true, eqb-true, eq-eqb, and_parts, and_from}
 use Rattle.deals.specs.Contract.{Path, same_path}
+use Rattle.deals.proofs.Choices.{same_path_true, same_path_refl}
 use Rattle.replay.specs.Choices.{one_more, way_bits}
 use Rattle.replay.specs.Meaning.{Bits}
 
@@ -49,22 +50,6 @@ short_way p h le =
     let most : 2 ^ length p ≤ 18446744073709551616 = pow_mono le in
     omega (arith, below 0 p h, room_is p)
 
-same_path_true : (p q : Path) → same_path p q ≡ true → p ≡ q
-unfolding same_path
-same_path_true [] [] e = refl
-same_path_true [] (b ∷ q) e = let z : ◌≡◌ {A = ℕ} 0 1 = cc in let clash : ⊥ = omega arith in absurd clash
-same_path_true (a ∷ p) [] e = let z : ◌≡◌ {A = ℕ} 0 1 = cc in let clash : ⊥ = omega arith in absurd clash
-same_path_true (a ∷ p) (b ∷ q) e = let parts = and_parts (eqb a b) (same_path p q) e in ap₂ ◌∷◌ (eqb-true a b parts.0) (same_path_true p q parts.1)
-
-same_path_refl : (p : Path) → same_path p p ≡ true
-unfolding same_path
-same_path_refl [] = refl
-same_path_refl (a ∷ p) = and_from (eqb a a) (same_path p p) (eq-eqb a a refl) (same_path_refl p)
-
-both_bools : (b : Bool) → (b ≡ true → ⊥) → b ≡ false
-both_bools true h = absurd (h refl)
-both_bools false h = refl
-
 clash : (b : Bool) → b ≡ true → b ≡ false → ⊥
 clash b p q = let z : true ≡ false = sym p ∙ q in grind arith
 
@@ -89,4 +74,4 @@ ways_same q p h g le = by (same_path q p) refl
         let is : q ≡ p = same_path_true q p e in
         and_from (eqb (length q) (min (length p) 18446744073709551615)) (eqb (way_bits 0 q) (way_bits 0 p))
         (eq-eqb (length q) (min (length p) 18446744073709551615) (let l = ap length is in omega arith)) (eq-eqb (way_bits 0 q) (way_bits 0 p) (ap (way_bits 0) is))
-    by false e = both_bools (same_numbers q p) (λ t. clash (same_path q p) (ap (λ z. same_path q z) (sym (numbers_true q p h g le t)) ∙ same_path_refl q) e)
+    by false e = false_from_ne_true (same_numbers q p) (λ t. clash (same_path q p) (ap (λ z. same_path q z) (sym (numbers_true q p h g le t)) ∙ same_path_refl q) e)

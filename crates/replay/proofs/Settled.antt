@@ -1,5 +1,5 @@
 -- Lent memory that stands for mornings, and what is then paid.
-use Rattle.std.proofs.Common.{◌≡◌, ℕ, suc, ◌+◌, ◌-◌, ◌/◌, ◌%◌, ◌<◌, ◌≤◌, Bool, ◌≢◌, List, [], ◌∷◌, ◌++◌, map, length, get_or, take, drop, sym, ap, ◌∙◌, subst, ⊎_elim, arith, length-append, length-take}
+use Rattle.std.proofs.Common.{◌≡◌, ℕ, suc, ◌+◌, ◌-◌, ◌/◌, ◌%◌, ◌<◌, ◌≤◌, Bool, ◌≢◌, List, [], ◌∷◌, ◌++◌, map, length, get_or, take, drop, sym, ap, ◌∙◌, subst, ⊎_elim, arith, length-append, length-take, Some, None, Option}
 use Rattle.std.specs.List.{range_with_len, AllByRecursion}
 use Rattle.std.specs.List.Sorted.{IsPermutation, IsNonDecreasing}
 use Rattle.std.proofs.ByRecursion.{All-append, All-get_or}
@@ -22,12 +22,13 @@ use Rattle.mornings.proofs.Fits.{taken_fits}
 use Rattle.replay.specs.declared.days.DayAt.{DayAt}
 use Rattle.replay.specs.declared.listing.DealIn.{DealIn}
 use Rattle.replay.specs.Days.{nowhere, bytes_of}
-use Rattle.replay.specs.Listing.{AllRun}
+use Rattle.replay.specs.Listing.{AllRun, AllListed}
 use Rattle.replay.specs.Meaning.{DaysAre, dues_on, as_due}
 use Rattle.replay.specs.Order.{pair_in, keys_from}
 use Rattle.replay.specs.Adding.{OwesIt}
 use Rattle.replay.specs.Settle.{Ordered, owed_by, grouped_payments}
 use Rattle.replay.specs.Standing.{no_morning, MorningsStand, net_payments}
+use Rattle.replay.proofs.InTurn.{none_listed, some_listed}
 use Rattle.replay.proofs.Ordering.{no_deal}
 use Rattle.replay.proofs.Judged.{Matches, matches_long, matches_at, all_listed, rates_stand, chosen_stand}
 use Rattle.replay.proofs.Final.{owe, owes_of, owes_long, owes_at, between_is, owe_size, keys_good, keys_long, order_same, order_rises, paid_is_net, pair_same}
@@ -117,6 +118,17 @@ module _ (st : Start) (kept : List ℕ) (days : List DayAt) (ms : List Morning) 
 
   pub few_deals : length dd ≤ 65536
   few_deals = omega (arith, facts.1)
+
+  -- how many deals are listed
+  pub listed_none : (deals deals' : List DealIn) (r : Option ℕ) → AllListed kept days deals r deals' → r ≡ None → length deals < length dd
+  listed_none deals deals' r h e =
+      let short = none_listed deals 0 listed.0 r deals' (h listed.0 listed.1) e in
+      omega (arith, matches_long st kept days listed.0 dd listed.2)
+
+  pub listed_some : (deals deals' : List DealIn) (r : Option ℕ) (n : ℕ) → AllListed kept days deals r deals' → r ≡ Some n → (n ≡ length dd) × (n ≤ length deals) × (take n deals' ≡ listed.0)
+  listed_some deals deals' r n h e =
+      let full = some_listed deals 0 listed.0 r deals' n (h listed.0 listed.1) e in
+      (omega (arith, full.0, matches_long st kept days listed.0 dd listed.2), full.1, full.2)
 
   are : DaysAre st.rates kept days ds
   are =

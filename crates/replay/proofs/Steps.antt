@@ -1,17 +1,15 @@
 -- One step of each recursion, at a number that isn't 0.
-use Rattle.std.proofs.Common.{◌≡◌, ℕ, zero, suc, ◌+◌, ◌-◌, ◌<◌, ◌≤◌, List, [], ℤ, pos, sym, refl, ap, ◌∙◌, arith}
+use Rattle.std.proofs.Common.{◌≡◌, ℕ, zero, suc, ◌+◌, ◌-◌, ◌<◌, ◌≤◌, List, [], ℤ, pos, None, refl, arith}
 use Rattle.std.proofs.lemmas.Bool.{lt-ltb, le-ltb}
 use Rattle.texts.specs.declared.nodes.Node.{Node}
 use Rattle.texts.specs.declared.nodes.Node.TheVariants.{Nothing, Pays, Turned, Both, Choice, If, Of, On, When, By, Fixed, Rate, Day, Plus, Minus, Times, Max, Less}
 use Rattle.replay.specs.Parts.{within, passed}
-use Rattle.replay.specs.Parts.{node_in}
-use Rattle.replay.specs.declared.days.DayAt.{DayAt}
 use Rattle.replay.specs.declared.dues.Due.{Due}
 use Rattle.replay.specs.declared.flow.Part.{Part}
 use Rattle.replay.specs.Figure.{figure_of, figure_at}
-use Rattle.replay.specs.Flow.{Seen, seen, flow_of, flow_at}
+use Rattle.replay.specs.Flow.{Seen, goes_on, next_of, flow_of, flow_at}
 
-pred_of : (n : ℕ) → suc n - 1 ≡ n
+pub pred_of : (n : ℕ) → suc n - 1 ≡ n
 pred_of n = omega arith
 
 -- nothing is to come, or no node is left
@@ -88,30 +86,47 @@ module _ (s : Seen) (u : ℕ) where
   flow_step zero p e h = absurd (omega arith)
   flow_step (suc n) p e h = rw (lt-ltb p.at 256 h, pred_of n)
 
-  -- a node that is no contract's, or nothing
-  pub flow_none : (go : Part → List Due) (p : Part) (q : Node) → ((k : ℕ) (a : ℤ) → q ≡ Pays k a → ⊥) → (q ≡ Turned → ⊥) → (q ≡ Both → ⊥) → (q ≡ Choice → ⊥) →
-      (q ≡ If → ⊥) → (q ≡ Of → ⊥) → ((d : ℕ) → q ≡ On d → ⊥) → (q ≡ When → ⊥) → ((d : ℕ) → q ≡ By d → ⊥) → flow_of s u go p q ≡ []
-  unfolding flow_of
-  flow_none go p Nothing y v b c f o g w z = refl
-  flow_none go p (Pays k a) y v b c f o g w z = absurd (y k a refl)
-  flow_none go p Turned y v b c f o g w z = absurd (v refl)
-  flow_none go p Both y v b c f o g w z = absurd (b refl)
-  flow_none go p Choice y v b c f o g w z = absurd (c refl)
-  flow_none go p If y v b c f o g w z = absurd (f refl)
-  flow_none go p Of y v b c f o g w z = absurd (o refl)
-  flow_none go p (On d) y v b c f o g w z = absurd (g d refl)
-  flow_none go p When y v b c f o g w z = absurd (w refl)
-  flow_none go p (By d) y v b c f o g w z = absurd (z d refl)
-  flow_none go p (Fixed a) y v b c f o g w z = refl
-  flow_none go p (Rate k n) y v b c f o g w z = refl
-  flow_none go p Day y v b c f o g w z = refl
-  flow_none go p Plus y v b c f o g w z = refl
-  flow_none go p Minus y v b c f o g w z = refl
-  flow_none go p Times y v b c f o g w z = refl
-  flow_none go p Max y v b c f o g w z = refl
-  flow_none go p Less y v b c f o g w z = refl
+  -- no part goes on
+  pub next_none : (p : Part) (q : Node) → (q ≡ Choice → ⊥) → (q ≡ If → ⊥) → ((d : ℕ) → q ≡ On d → ⊥) → (q ≡ When → ⊥) → ((d : ℕ) → q ≡ By d → ⊥) → next_of s p q ≡ None
+  unfolding next_of
+  next_none p Nothing c f o w b = refl
+  next_none p (Pays k a) c f o w b = refl
+  next_none p Turned c f o w b = refl
+  next_none p Both c f o w b = refl
+  next_none p Choice c f o w b = absurd (c refl)
+  next_none p If c f o w b = absurd (f refl)
+  next_none p Of c f o w b = refl
+  next_none p (On d) c f o w b = absurd (o d refl)
+  next_none p When c f o w b = absurd (w refl)
+  next_none p (By d) c f o w b = absurd (b d refl)
+  next_none p (Fixed a) c f o w b = refl
+  next_none p (Rate k n) c f o w b = refl
+  next_none p Day c f o w b = refl
+  next_none p Plus c f o w b = refl
+  next_none p Minus c f o w b = refl
+  next_none p Times c f o w b = refl
+  next_none p Max c f o w b = refl
+  next_none p Less c f o w b = refl
 
-pub flow_here : (kept : List ℕ) (days : List DayAt) (nodes : List Node) (c u n : ℕ) (p : Part) (q r : Node) → 0 < n → p.at < 256 → q ≡ node_in nodes p.at → q ≡ r →
-    flow_at (seen kept days nodes c) u n p ≡ flow_of (seen kept days nodes c) u (flow_at (seen kept days nodes c) u (n - 1)) p r
-unfolding seen
-flow_here kept days nodes c u n p q r e h is here = flow_step (seen kept days nodes c) u n p e h ∙ ap (flow_of (seen kept days nodes c) u (flow_at (seen kept days nodes c) u (n - 1)) p) (sym is ∙ here)
+  -- one part goes on, or none
+  pub flow_next : (go : Part → List Due) (p : Part) (q : Node) → ((k : ℕ) (a : ℤ) → q ≡ Pays k a → ⊥) → (q ≡ Turned → ⊥) → (q ≡ Both → ⊥) → (q ≡ Of → ⊥) →
+      flow_of s u go p q ≡ goes_on (next_of s p q) go
+  unfolding flow_of next_of
+  flow_next go p Nothing y v b o = refl
+  flow_next go p (Pays k a) y v b o = absurd (y k a refl)
+  flow_next go p Turned y v b o = absurd (v refl)
+  flow_next go p Both y v b o = absurd (b refl)
+  flow_next go p Choice y v b o = refl
+  flow_next go p If y v b o = refl
+  flow_next go p Of y v b o = absurd (o refl)
+  flow_next go p (On d) y v b o = refl
+  flow_next go p When y v b o = refl
+  flow_next go p (By d) y v b o = refl
+  flow_next go p (Fixed a) y v b o = refl
+  flow_next go p (Rate k n) y v b o = refl
+  flow_next go p Day y v b o = refl
+  flow_next go p Plus y v b o = refl
+  flow_next go p Minus y v b o = refl
+  flow_next go p Times y v b o = refl
+  flow_next go p Max y v b o = refl
+  flow_next go p Less y v b o = refl

@@ -1,20 +1,9 @@
 -- Ways as numbers.
-use Rattle.std.proofs.Common.{◌≡◌, ℕ, ◌+◌, ◌<◌, ◌≤◌, List, [], ◌∷◌, ◌++◌, length, get_or, drop, sym, refl, add-one, arith, length-append, drop-cons}
-use Rattle.std.proofs.lemmas.List.{drop_all}
+use Rattle.std.proofs.Common.{◌≡◌, ℕ, ◌+◌, ◌≤◌, [], ◌∷◌, ◌++◌, length, min, sym, refl, ◌∙◌, arith, length-append}
+use Rattle.std.specs.List.{fold}
 use Rattle.deals.specs.Contract.{Path}
 use Rattle.replay.specs.declared.choices.Way.{Way}
 use Rattle.replay.specs.Choices.{one_more, way_bits, way_of, stepped}
-
-pub bits_none : (s : List ℕ) → way_bits 0 (drop 0 s) ≡ way_bits 0 s
-bits_none s = refl
-
-pub bits_more : (s : List ℕ) (i b : ℕ) → i < length s → way_bits b (drop i s) ≡ way_bits (one_more b (get_or s i 0)) (drop (i + 1) s)
-unfolding way_bits
-bits_more s i b h = rw (add-one i, drop-cons s i 0)
-
-pub bits_end : (s : List ℕ) (i b : ℕ) → length s ≤ i → way_bits b (drop i s) ≡ b
-unfolding way_bits
-bits_end s i b h = rw (drop_all i s h)
 
 -- a step further
 bits_append : (b : ℕ) (p : Path) (s : ℕ) → way_bits b (p ++ s ∷ []) ≡ one_more (way_bits b p) s
@@ -30,3 +19,20 @@ unfolding way_of
 way_step p s =
     let long = length-append p (s ∷ []) in
     same_way _ _ _ _ (sym (bits_append 0 p s)) (omega arith)
+
+-- one step after the other
+ways_fold : (b l : ℕ) (p : Path) → l ≤ 18446744073709551615 →
+    fold stepped (record { bits = b; len = l }) p ≡ record { bits = way_bits b p; len = min (l + length p) 18446744073709551615 }
+unfolding way_bits
+ways_fold b l [] h = same_way b b l (min (l + 0) 18446744073709551615) refl (omega arith)
+ways_fold b l (s ∷ p) h =
+    let long : min (min (l + 1) 18446744073709551615 + length p) 18446744073709551615 ≡ min (l + length (s ∷ p)) 18446744073709551615 = omega arith in
+    ways_fold (one_more b s) (min (l + 1) 18446744073709551615) p (omega arith) ∙ same_way _ _ _ _ refl long
+
+pub way_fold : (w r : Way) (p : Path) → w.bits ≡ 0 → w.len ≡ 0 → r ≡ fold stepped w p → r ≡ way_of p
+unfolding way_of
+way_fold w r p none start e = e ∙ (λ i. fold stepped (record { bits = none i; len = start i }) p) ∙ ways_fold 0 0 p (omega arith) ∙ same_way _ _ _ _ refl (omega arith)
+
+pub way_long : (p : Path) (n : ℕ) → length p ≡ n → n ≤ 18446744073709551615 → way_of p ≡ record { bits = way_bits 0 p; len = n }
+unfolding way_of
+way_long p n e h = same_way _ _ _ _ refl (omega arith)

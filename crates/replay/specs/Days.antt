@@ -5,6 +5,7 @@ use Rattle.std.proofs.Common.{to_z}
 use Rattle.octets.specs.Octets.{word}
 use Rattle.deals.specs.Contract.{pick}
 use Rattle.replay.specs.declared.days.DayAt.{DayAt}
+use Rattle.replay.specs.declared.days.Days.{Days}
 
 -- no morning
 abbrev pub nowhere : DayAt
@@ -22,6 +23,9 @@ signed_at s at k = pick (nat_lt k ((length s - at) / 8)) (to_z w64 (word 8 s (at
 unfoldable pub rate_on : List ℕ → List DayAt → ℕ → ℕ → ℤ
 rate_on kept days t k =
     pick (nat_lt t (length days)) (signed_at (bytes_of kept (slice_index_or days t nowhere)) (get_or days t nowhere).parts.rates_at k) (pos 0)
+
+abbrev pub rates_of : Days → ℕ → ℕ → ℤ
+rates_of d = rate_on d.kept.now d.days.now
 
 -- the same, n days before; 0 before the first day
 abbrev pub rate_before : (ℕ → ℕ → ℤ) → ℕ → ℕ → ℕ → ℤ

@@ -1,7 +1,7 @@
 -- Amounts that flow on a day, in a row. Assumes nothing: these are definitions.
-use Rattle.std.specs.Prelude.{◌≡◌, ℕ, ◌≤◌, min, List, ◌++◌, map, length, take, ℤ, pos, ◌*ℤ◌, neg_ℤ, nat_lt, slice_index_or}
+use Rattle.std.specs.Prelude.{◌≡◌, ℕ, min, List, ◌++◌, map, length, take, ℤ, pos, ◌*ℤ◌, neg_ℤ}
 use Rattle.std.specs.Int.{int_wrap, w64}
-use Rattle.deals.specs.Contract.{pick, down, million}
+use Rattle.deals.specs.Contract.{down, million}
 use Rattle.replay.specs.declared.dues.Due.{Due}
 use Rattle.replay.specs.declared.dues.Dues.{Dues}
 use Rattle.replay.specs.declared.dues.Above.{Above}
@@ -18,14 +18,9 @@ lifted (Scale v) a = down (int_wrap w64 (a *ℤ v)) million
 abbrev pub lift_due : Above → Due → Due
 lift_due above d = record { currency = d.currency; amount = lifted above d.amount }
 
--- amounts that are held, if there are at most 256, and how many they are, but no more than 257
-pub record Held (d : Dues) (xs : List Due) : Type 0 where
-  pub many : d.count ≡ min (length xs) 257
-  pub all : length xs ≤ 256 → take (length xs) d.items ≡ xs
-
--- the amount at a place
-abbrev pub due_at : Dues → ℕ → Due
-due_at d i = pick (nat_lt i 256) (slice_index_or d.items i no_due) no_due
+-- the first 257 of some amounts are held
+abbrev pub Held : Dues → List Due → Type 0
+Held d xs = d.items.items ≡ take 257 xs
 
 -- whatever was held, more is held behind it now
 abbrev pub Adds : Dues → Dues → List Due → Type 0

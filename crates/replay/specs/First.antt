@@ -1,7 +1,8 @@
 -- The days on which what waits may begin. Assumes nothing: these are definitions.
-use Rattle.std.specs.Prelude.{ℕ, zero, suc, Bool, not, ◌&&◌, ℤ, Some, None, Option, nat_le}
-use Rattle.deals.specs.Contract.{is_zero}
+use Rattle.std.specs.Prelude.{ℕ, zero, suc, Bool, not, ◌&&◌, length, ◌-◌, ℤ, Some, None, Option, nat_le}
+use Rattle.deals.specs.Contract.{is_zero, first_day}
 use Rattle.texts.specs.declared.nodes.Node.{Node}
+use Rattle.replay.specs.declared.days.Days.{Days}
 use Rattle.replay.specs.declared.choices.Way.{Way}
 use Rattle.replay.specs.Figure.{figure_at}
 
@@ -9,6 +10,10 @@ use Rattle.replay.specs.Figure.{figure_at}
 abbrev pub found : ℕ → Option ℕ
 found zero = None
 found (suc u) = Some u
+
+-- the first of the known days, from day t on, that passes
+abbrev pub first_known : Days → (ℕ → Bool) → ℕ → Option ℕ
+first_known d f t = found (first_day f t (length d.days.now - t))
 
 -- whether the figure at place i isn't 0 on a day
 unfoldable pub true_on : (ℕ → ℕ → ℤ) → (ℕ → Node) → ℕ → ℕ → Bool

@@ -5,7 +5,6 @@ pub mod Dues
 pub mod Choices
 pub mod First
 pub mod Flow
-pub mod Payments
 pub mod Meaning
 pub mod Listing
 pub mod Order

@@ -11,19 +11,12 @@ unfoldable pub deal_in : List ℕ → ℕ → ℕ → Option DealIn
 deal_in s at t =
     pick (nat_lt (length s) (at + 10)) None
     (pick (nat_lt (length s) (deal_at s at).text_end) None
-    (Some (record {
-      holder = (deal_at s at).holder;
-      other = (deal_at s at).other;
-      day = (deal_at s at).day;
-      morning = t;
-      text_at = at + 10;
-      text_end = (deal_at s at).text_end;
-    })))
+    (Some (record { morning = t; at = deal_at s at })))
 
 -- so many deals stand in a row from a place on
 unfoldable pub DealsRun : List ℕ → ℕ → ℕ → ℕ → List DealIn → Type 0
 DealsRun s zero at t xs = xs ≡ []
-DealsRun s (suc n) at t xs = (d : DealIn) × (rest : List DealIn) × (deal_in s at t ≡ Some d) × DealsRun s n d.text_end t rest × (xs ≡ d ∷ rest)
+DealsRun s (suc n) at t xs = (d : DealIn) × (rest : List DealIn) × (deal_in s at t ≡ Some d) × DealsRun s n d.at.text_end t rest × (xs ≡ d ∷ rest)
 
 -- those of n mornings, from morning t on
 unfoldable pub AllRun : List ℕ → List DayAt → ℕ → ℕ → List DealIn → Type 0

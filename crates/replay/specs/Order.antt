@@ -1,10 +1,12 @@
 -- Deals as keys: their pair, and then their number. Assumes nothing: these are definitions.
-use Rattle.std.specs.Prelude.{ℕ, suc, ◌+◌, ◌*◌, List, [], ◌∷◌, nat_lt}
-use Rattle.deals.specs.Contract.{pick}
+use Rattle.std.specs.Prelude.{ℕ, suc, ◌+◌, ◌*◌, List, [], ◌∷◌}
+use Rattle.deals.specs.Contract.{larger}
+use Rattle.deals.specs.Lines.{pair}
+use Rattle.deals.specs.Sleep.{smaller}
 use Rattle.replay.specs.declared.listing.DealIn.{DealIn}
 
 unfoldable pub pair_in : DealIn → ℕ
-pair_in d = pick (nat_lt d.holder d.other) (65536 * d.holder + d.other) (65536 * d.other + d.holder)
+pair_in d = pair (smaller d.at.holder d.at.other) (larger d.at.holder d.at.other)
 
 unfoldable pub key_of : DealIn → ℕ → ℕ
 key_of d c = 65536 * pair_in d + c

@@ -8,7 +8,7 @@ use Rattle.mornings.specs.declared.Start.{Start}
 use Rattle.mornings.specs.declared.payments.Payment.{Payment}
 use Rattle.replay.specs.declared.days.DayAt.{DayAt}
 use Rattle.replay.specs.declared.listing.DealIn.{DealIn}
-use Rattle.replay.specs.Payments.{as_bytes, Written, Zeros, PairPaid}
+use Rattle.mornings.specs.Pairs.{as_bytes, Written, Zeros, PairPaid}
 use Rattle.replay.specs.Adding.{OwesIt}
 
 -- with another pair the payments of the last are written, and its sums begin again

@@ -13,7 +13,7 @@ use Rattle.replay.specs.declared.days.DayAt.{DayAt}
 use Rattle.replay.specs.declared.settle.Short.{Short}
 use Rattle.replay.specs.declared.settle.Short.TheVariants.{Deals, Keys, Payments}
 use Rattle.replay.specs.Days.{nowhere, bytes_of}
-use Rattle.replay.specs.Payments.{as_bytes, Written}
+use Rattle.mornings.specs.Pairs.{as_bytes, Written}
 
 abbrev pub no_morning : Morning
 no_morning = record { deals = []; day = no_day }

@@ -1,103 +1,92 @@
 // What the deals come to on the last day, added up for each currency.
 ghost use Rattle.std.specs.Prelude.{◌≡◌, ◌≤◌, length};
-ghost use Rattle.replay.specs.Adding.{DueAdded, DuesAdded, ContractRead, NodesCopied, DealFlows, DealAdded};
+ghost use Rattle.replay.specs.Adding.{DueAdded, DuesAdded, ContractRead, DealFlows, DealAdded};
 
 use crate::choices::Way;
-use crate::days::{DayAt, bytes_of};
-use crate::dues::{Due, Dues};
-use crate::flow::{Part, flow};
+use crate::days::Days;
+use crate::dues::{Above, Due, Dues};
+use crate::flow::{Deal, Part};
 use crate::listing::DealIn;
-use figures::{difference, sum};
+use figures::sum;
 use mornings::Start;
-use texts::nodes::{Node, Tree};
+use texts::nodes::Tree;
 use texts::reading::read_part;
 
-// An amount more, or less, in its currency, if there is such a one.
-fn add_due(sums: &mut [i64], due: Due, more: bool)
-    ensures { DueAdded due more sums.old sums.new }
+// The days, and the start with which they were taken.
+#[derive(Clone, Copy)]
+pub(crate) struct Book<'a> {
+    pub(crate) days: Days<'a>,
+    pub(crate) start: Start,
+}
+
+// An amount more in its currency, if there is such a one.
+fn add_due(sums: &mut [i64], due: Due)
+    ensures { DueAdded due sums.old sums.new }
 {
     let k = due.currency as usize;
-    if k >= sums.len() {
-        return;
-    }
-    if more {
+    if k < sums.len() {
         sums[k] = sum(sums[k], due.amount);
-    } else {
-        sums[k] = difference(sums[k], due.amount);
     }
 }
 
-// All amounts more, or less.
-fn add_dues(dues: &Dues, more: bool, sums: &mut [i64])
-    ensures { DuesAdded dues.now more sums.old sums.new }
+// All amounts more.
+fn add_dues(dues: &Dues, sums: &mut [i64])
+    ensures { DuesAdded dues.now sums.old sums.new }
 {
-    for i in 0..dues.count().min(256) {
-        add_due(sums, dues.due(i), more);
+    for due in dues.row() {
+        add_due(sums, *due);
     }
 }
 
-// The contract of a deal, read anew from the bytes of its morning.
-fn read_contract(kept: &[u8], days: &[DayAt], start: Start, deal: DealIn, tree: &mut Tree) -> bool
-    ensures { ContractRead start kept.now days.now deal result tree.new }
-{
-    if deal.morning >= days.len() {
-        return false;
+impl<'a> Book<'a> {
+    // The contract of a deal, read anew from the bytes of its morning.
+    fn read_contract(self, deal: DealIn) -> Option<Tree>
+        ensures { ContractRead self.entry.start self.entry.days.kept.now self.entry.days.days.now deal result }
+    {
+        let day = self.days.days.get(deal.morning)?;
+        let bytes = self.days.bytes_of(*day);
+        let from = deal.at.text_at;
+        let to = deal.at.text_end;
+        if from > to || to > bytes.len() {
+            return None;
+        }
+        let mut tree = Tree::new();
+        let start = self.start;
+        read_part(bytes, from, to, start.rates, start.currencies, &mut tree).ok()?;
+        Some(tree)
     }
-    let bytes = bytes_of(kept, days[deal.morning]);
-    let from = deal.text_at;
-    let to = deal.text_end;
-    if from > to {
-        return false;
-    }
-    if to > bytes.len() {
-        return false;
-    }
-    read_part(bytes, from, to, start.rates, start.currencies, tree).is_ok()
-}
 
-// The nodes of a contract.
-fn nodes_in(tree: &Tree) -> [Node; 256]
-    ensures { NodesCopied tree.now result }
-{
-    let mut nodes = [Node::Nothing; 256];
-    for i in 0..256 {
-        nodes[i] = tree.node(i);
+    // What flows on the last day under deal number c.
+    fn flow_deal(self, deal: DealIn, c: u32) -> Option<Dues>
+        ensures { DealFlows self.entry.start self.entry.days.kept.now self.entry.days.days.now deal c result }
+    {
+        let last = self.days.days.len().checked_sub(1)?;
+        let tree = self.read_contract(deal)?;
+        let seen = Deal {
+            days: self.days,
+            nodes: tree.row(),
+            number: c,
+        };
+        let whole = Part {
+            at: 0,
+            day: deal.at.day as usize,
+            way: Way::default(),
+        };
+        let mut dues = Dues::new();
+        seen.flow(last, 256, whole, &mut dues);
+        Some(dues)
     }
-    nodes
-}
 
-// What flows on the last day under deal number c is put into `dues`.
-fn flow_deal(kept: &[u8], days: &[DayAt], start: Start, deal: DealIn, c: u32, dues: &mut Dues)
-    ensures { DealFlows start kept.now days.now deal c dues.old dues.new }
-{
-    let mut tree = Tree::new();
-    if days.len() == 0 {
-        return;
+    // What the lower house of a deal's pair pays the other on the last day under it is added to what it pays.
+    pub(crate) fn add_deal(self, deal: DealIn, c: u32, sums: &mut [i64])
+        ensures { DealAdded self.entry.start self.entry.days.kept.now self.entry.days.days.now deal c sums.old sums.new }
+    {
+        let Some(mut dues) = self.flow_deal(deal, c) else {
+            return;
+        };
+        if deal.at.holder <= deal.at.other {
+            dues.lift_from(0, Above::Turn);
+        }
+        add_dues(&dues, sums);
     }
-    if !read_contract(kept, days, start, deal, &mut tree) {
-        return;
-    }
-    let nodes = nodes_in(&tree);
-    let whole = Part {
-        at: 0,
-        day: deal.day as usize,
-        way: Way { bits: 0, len: 0 },
-    };
-    flow(kept, days, &nodes, c, days.len() - 1, 256, whole, dues);
-}
-
-// What the lower house of a deal's pair pays the other on the last day under it is added to what it pays.
-pub(crate) fn add_deal(
-    kept: &[u8],
-    days: &[DayAt],
-    start: Start,
-    deal: DealIn,
-    c: u32,
-    sums: &mut [i64],
-)
-    ensures { DealAdded start kept.now days.now deal c sums.old sums.new }
-{
-    let mut dues = Dues::new();
-    flow_deal(kept, days, start, deal, c, &mut dues);
-    add_dues(&dues, deal.other < deal.holder, sums);
 }

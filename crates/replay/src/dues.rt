@@ -1,28 +1,28 @@
 // What flows on a day under one contract: amounts with their currencies, one behind the other.
 ghost use Rattle.std.specs.Prelude.{◌≡◌, min, List, [], ◌∷◌, length};
-ghost use Rattle.replay.specs.Dues.{lifted, Held, Adds, Lifts, due_at};
+ghost use Rattle.replay.specs.Dues.{lifted, Held, Adds, Lifts};
 
+use arrayvec::ArrayVec;
 use figures::product;
 
 // An amount of a currency, to who holds the contract.
-#[derive(Clone, Copy)]
+#[derive(Clone, Copy, Default)]
 pub struct Due {
     pub currency: u64,
     pub amount: i64,
 }
 
-// What stands above a part: the other way round, or as much as a figure says.
+// What stands above a part: the other way round, or as much as a figure says. Neither is the lack of the other, so this is no Option.
 #[derive(Clone, Copy)]
 pub enum Above {
     Turn,
     Scale(i64),
 }
 
-// Up to 256 amounts, and how many there are, where 257 stands for all above 256.
+// The first 257 amounts: one more than a contract can bring. As the `Tree` of a contract's nodes: what the two share is the library's `ArrayVec`.
 #[derive(Drop)]
 pub struct Dues {
-    items: [Due; 256],
-    count: usize,
+    items: ArrayVec<Due, 257>,
 }
 
 // An amount as it comes out above.
@@ -39,57 +39,36 @@ impl Dues {
     pub(crate) fn new() -> Dues
         ensures { Held result [] }
     {
-        let none = Due {
-            currency: 0,
-            amount: 0,
-        };
         Dues {
-            items: [none; 256],
-            count: 0,
+            items: ArrayVec::new(),
         }
     }
 
     pub(crate) fn push(&mut self, due: Due)
         ensures { Adds self.old self.new (due ∷ []) }
     {
-        if self.count < 256 {
-            self.items[self.count] = due;
-            self.count += 1;
-        } else {
-            self.count = 257;
-        }
+        let _ = self.items.try_push(due);
     }
 
     pub(crate) fn count(&self) -> usize
         ensures { (xs : List Due) → Held self.now xs → result ≡ min (length xs) 257 }
     {
-        self.count
+        self.items.len()
     }
 
-    // The amount at a place; none past the last place there is room for.
-    pub(crate) fn due(&self, at: usize) -> Due
-        ensures { result ≡ due_at self.now at }
+    pub(crate) fn row(&self) -> &[Due]
+        ensures { result.now ≡ self.now.items.items }
     {
-        if at >= 256 {
-            return Due {
-                currency: 0,
-                amount: 0,
-            };
-        }
-        self.items[at]
+        self.items.as_slice()
     }
 
     // All amounts from a place on come out above.
     pub(crate) fn lift_from(&mut self, from: usize, above: Above)
         ensures { Lifts self.old self.new from above }
     {
-        let end = self.count.min(256);
-        for i in from..end {
-            let due = self.items[i];
-            self.items[i] = Due {
-                currency: due.currency,
-                amount: lift(above, due.amount),
-            };
+        // By index: the amounts from a place on would have to be cut out first, and the place may lie past their end.
+        for i in from..self.items.len() {
+            self.items[i].amount = lift(above, self.items[i].amount);
         }
     }
 }

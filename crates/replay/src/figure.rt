@@ -1,10 +1,10 @@
 // The value of a figure on a day.
-ghost use Rattle.replay.specs.Days.{rate_on};
+ghost use Rattle.replay.specs.Days.{rates_of};
 ghost use Rattle.replay.specs.Figure.{combined, figure_at};
 ghost use Rattle.replay.specs.Parts.{node_in};
 ghost use Rattle.std.specs.Prelude.{◌≡◌};
 
-use crate::days::{DayAt, rate_before};
+use crate::flow::Deal;
 use crate::parts::{behind, node};
 use figures::{difference, larger, less, product, sum};
 use texts::nodes::Node;
@@ -23,30 +23,25 @@ fn combined(node: Node, a: i64, b: i64) -> i64
     }
 }
 
-// The value on day t of the figure at place i, at most n deep.
-pub(crate) fn figure(
-    kept: &[u8],
-    days: &[DayAt],
-    nodes: &[Node],
-    t: usize,
-    n: usize,
-    i: usize,
-) -> i64
-    ensures { result ≡ figure_at (rate_on kept.now days.now) (node_in nodes.now) t n i }
-{
-    if n == 0 || i >= 256 {
-        return 0;
-    }
-    let node = node(nodes, i);
-    match node {
-        Node::Fixed(a) => a,
-        Node::Rate(k, m) => rate_before(kept, days, t, k as usize, m as usize),
-        Node::Day => (t as u64).cast_signed(),
-        Node::Plus | Node::Minus | Node::Times | Node::Max | Node::Less => {
-            let a = figure(kept, days, nodes, t, n - 1, i + 1);
-            let b = figure(kept, days, nodes, t, n - 1, behind(nodes, i + 1));
-            combined(node, a, b)
+impl<'a> Deal<'a> {
+    // The value on day t of the figure at place i, at most n deep.
+    pub(crate) fn figure(self, t: usize, n: usize, i: usize) -> i64
+        ensures { result ≡ figure_at (rates_of self.entry.days) (node_in self.entry.nodes.now) t n i }
+    {
+        if n == 0 || i >= 256 {
+            return 0;
         }
-        _ => 0,
+        let node = node(self.nodes, i);
+        match node {
+            Node::Fixed(a) => a,
+            Node::Rate(k, m) => self.days.rate_before(t, k as usize, m as usize),
+            Node::Day => (t as u64).cast_signed(),
+            Node::Plus | Node::Minus | Node::Times | Node::Max | Node::Less => {
+                let a = self.figure(t, n - 1, i + 1);
+                let b = self.figure(t, n - 1, behind(self.nodes, i + 1));
+                combined(node, a, b)
+            }
+            _ => 0,
+        }
     }
 }

@@ -1,15 +1,21 @@
 // What flows on a day under a contract that began on a day.
 ghost use Rattle.replay.specs.Dues.{Adds};
-ghost use Rattle.replay.specs.Flow.{seen, flow_at, inside};
-ghost use Rattle.std.specs.Prelude.{◌≡◌};
+ghost use Rattle.replay.specs.Flow.{seen_by, flow_at, next_of, inside};
+ghost use Rattle.std.specs.Prelude.{◌≡◌, ◌<◌};
 
-use crate::choices::{Way, chosen_on};
-use crate::days::DayAt;
+use crate::choices::Way;
+use crate::days::Days;
 use crate::dues::{Above, Due, Dues};
-use crate::figure::figure;
-use crate::first::{first_chosen, first_true};
 use crate::parts::{behind, node};
 use texts::nodes::Node;
+
+// What a deal is worked out from: the days, the nodes of its contract, and its number.
+#[derive(Clone, Copy)]
+pub(crate) struct Deal<'a> {
+    pub(crate) days: Days<'a>,
+    pub(crate) nodes: &'a [Node],
+    pub(crate) number: u32,
+}
 
 // A part of a contract: the place of its node, the day on which it begins, and the way to it.
 #[derive(Clone, Copy)]
@@ -21,7 +27,7 @@ pub struct Part {
 
 impl Part {
     // The part at a place within this one, a step further, that begins on a day.
-    fn inside(self, at: usize, day: usize, step: u64) -> Part
+    fn inside(self, at: usize, day: usize, step: u8) -> Part
         ensures { result ≡ inside self at day step }
     {
         Part {
@@ -32,139 +38,85 @@ impl Part {
     }
 }
 
-// What flows on day u under a part of deal c, at most n deep, is put behind what is in `out`.
-pub(crate) fn flow(
-    kept: &[u8],
-    days: &[DayAt],
-    nodes: &[Node],
-    c: u32,
-    u: usize,
-    n: usize,
-    part: Part,
-    out: &mut Dues,
-)
-    ensures { Adds out.old out.new (flow_at (seen kept.now days.now nodes.now c) u n part) }
-{
-    let i = part.at;
-    let t = part.day;
-    if n == 0 || i >= 256 {
-        return;
+impl<'a> Deal<'a> {
+    // The part that goes on in the place of one with a choice, if, on, when or by, if one does.
+    fn next(self, node: Node, part: Part) -> Option<Part>
+        requires { part.at < 256 }
+        ensures { result ≡ next_of (seen_by self.entry) part node }
+    {
+        let i = part.at + 1;
+        let t = part.day;
+        // On a day that is not known nothing is chosen, and a figure has no value.
+        match node {
+            Node::Choice => {
+                self.days.days.get(t)?;
+                if self.days.chosen_on(t, self.number, part.way) {
+                    Some(part.inside(behind(self.nodes, i), t, 1))
+                } else {
+                    Some(part.inside(i, t, 0))
+                }
+            }
+            Node::If => {
+                self.days.days.get(t)?;
+                let x = behind(self.nodes, i);
+                if self.figure(t, 256, i) == 0 {
+                    Some(part.inside(behind(self.nodes, x), t, 1))
+                } else {
+                    Some(part.inside(x, t, 0))
+                }
+            }
+            Node::On(d) => (t as u64 <= d).then_some(part.inside(i, d as usize, 0)),
+            Node::When => {
+                let v = self.first_true(t, i)?;
+                Some(part.inside(behind(self.nodes, i), v, 0))
+            }
+            Node::By(d) => {
+                let v = self.first_chosen(part.way, d, t)?;
+                Some(part.inside(i, v, 0))
+            }
+            _ => None,
+        }
     }
-    match node(nodes, i) {
-        Node::Pays(k, a) => {
-            if t == u && t < days.len() {
-                out.push(Due {
-                    currency: k,
-                    amount: a,
-                });
+
+    // What flows on day u under a part, at most n deep, is put behind what is in `out`.
+    pub(crate) fn flow(self, u: usize, n: usize, part: Part, out: &mut Dues)
+        ensures { Adds out.old out.new (flow_at (seen_by self.entry) u n part) }
+    {
+        let i = part.at;
+        let t = part.day;
+        if n == 0 || i >= 256 {
+            return;
+        }
+        let node = node(self.nodes, i);
+        match node {
+            Node::Pays(currency, amount) => {
+                if t == u && t < self.days.days.len() {
+                    out.push(Due { currency, amount });
+                }
+            }
+            Node::Turned => {
+                let from = out.count();
+                self.flow(u, n - 1, part.inside(i + 1, t, 0), out);
+                out.lift_from(from, Above::Turn);
+            }
+            Node::Both => {
+                self.flow(u, n - 1, part.inside(i + 1, t, 0), out);
+                self.flow(u, n - 1, part.inside(behind(self.nodes, i + 1), t, 1), out);
+            }
+            Node::Of => {
+                if t < self.days.days.len() {
+                    let v = self.figure(t, 256, i + 1);
+                    let x = behind(self.nodes, i + 1);
+                    let from = out.count();
+                    self.flow(u, n - 1, part.inside(x, t, 0), out);
+                    out.lift_from(from, Above::Scale(v));
+                }
+            }
+            _ => {
+                if let Some(next) = self.next(node, part) {
+                    self.flow(u, n - 1, next, out);
+                }
             }
         }
-        Node::Turned => {
-            let from = out.count();
-            flow(
-                kept,
-                days,
-                nodes,
-                c,
-                u,
-                n - 1,
-                part.inside(i + 1, t, 0),
-                out,
-            );
-            out.lift_from(from, Above::Turn);
-        }
-        Node::Both => {
-            let y = behind(nodes, i + 1);
-            flow(
-                kept,
-                days,
-                nodes,
-                c,
-                u,
-                n - 1,
-                part.inside(i + 1, t, 0),
-                out,
-            );
-            flow(kept, days, nodes, c, u, n - 1, part.inside(y, t, 1), out);
-        }
-        Node::Choice => {
-            if t >= days.len() {
-                return;
-            }
-            if chosen_on(kept, days, t, c, part.way) {
-                let y = behind(nodes, i + 1);
-                flow(kept, days, nodes, c, u, n - 1, part.inside(y, t, 1), out);
-            } else {
-                flow(
-                    kept,
-                    days,
-                    nodes,
-                    c,
-                    u,
-                    n - 1,
-                    part.inside(i + 1, t, 0),
-                    out,
-                );
-            }
-        }
-        Node::If => {
-            if t >= days.len() {
-                return;
-            }
-            let x = behind(nodes, i + 1);
-            if figure(kept, days, nodes, t, 256, i + 1) == 0 {
-                let y = behind(nodes, x);
-                flow(kept, days, nodes, c, u, n - 1, part.inside(y, t, 1), out);
-            } else {
-                flow(kept, days, nodes, c, u, n - 1, part.inside(x, t, 0), out);
-            }
-        }
-        Node::Of => {
-            if t >= days.len() {
-                return;
-            }
-            let v = figure(kept, days, nodes, t, 256, i + 1);
-            let x = behind(nodes, i + 1);
-            let from = out.count();
-            flow(kept, days, nodes, c, u, n - 1, part.inside(x, t, 0), out);
-            out.lift_from(from, Above::Scale(v));
-        }
-        Node::On(d) => {
-            if t as u64 <= d {
-                flow(
-                    kept,
-                    days,
-                    nodes,
-                    c,
-                    u,
-                    n - 1,
-                    part.inside(i + 1, d as usize, 0),
-                    out,
-                );
-            }
-        }
-        Node::When => {
-            let Some(v) = first_true(kept, days, nodes, t, i + 1) else {
-                return;
-            };
-            let x = behind(nodes, i + 1);
-            flow(kept, days, nodes, c, u, n - 1, part.inside(x, v, 0), out);
-        }
-        Node::By(d) => {
-            let Some(v) = first_chosen(kept, days, c, part.way, d, t) else {
-                return;
-            };
-            flow(
-                kept,
-                days,
-                nodes,
-                c,
-                u,
-                n - 1,
-                part.inside(i + 1, v, 0),
-                out,
-            );
-        }
-        _ => {}
     }
 }

@@ -11,5 +11,4 @@ mod flow;
 pub mod listing;
 mod order;
 mod parts;
-pub mod payments;
 pub mod settle;

@@ -8,11 +8,7 @@ use texts::nodes::Node;
 pub(crate) fn node(nodes: &[Node], i: usize) -> Node
     ensures { result ≡ node_in nodes.now i }
 {
-    if i < nodes.len() {
-        nodes[i]
-    } else {
-        Node::Nothing
-    }
+    nodes.get(i).copied().unwrap_or(Node::Nothing)
 }
 
 // How many parts stand right within a node.
@@ -21,24 +17,12 @@ fn within(node: Node) -> usize
     ensures few { result ≤ 3 }
 {
     match node {
-        Node::Nothing => 0,
-        Node::Pays(_, _) => 0,
-        Node::Turned => 1,
-        Node::Both => 2,
-        Node::Choice => 2,
         Node::If => 3,
-        Node::Of => 2,
-        Node::On(_) => 1,
-        Node::When => 2,
-        Node::By(_) => 1,
-        Node::Fixed(_) => 0,
-        Node::Rate(_, _) => 0,
-        Node::Day => 0,
-        Node::Plus => 2,
-        Node::Minus => 2,
-        Node::Times => 2,
-        Node::Max => 2,
-        Node::Less => 2,
+        Node::Both | Node::Choice | Node::Of | Node::When => 2,
+        Node::Plus | Node::Minus | Node::Times | Node::Max | Node::Less => 2,
+        Node::Turned | Node::On(_) | Node::By(_) => 1,
+        Node::Nothing | Node::Pays(_, _) => 0,
+        Node::Fixed(_) | Node::Rate(_, _) | Node::Day => 0,
     }
 }
 
@@ -48,6 +32,7 @@ pub(crate) fn behind(nodes: &[Node], from: usize) -> usize
 {
     let mut more = 1;
     let mut i = from;
+    // A `while`: it ends by what is still to come, and the place at which it ends is the result.
     while more > 0 && i < 256 {
         more = more - 1 + within(node(nodes, i));
         i += 1;

@@ -1,19 +1,22 @@
-use Rattle.std.proofs.Common.{◌≡◌, ◌+◌, ◌-◌, take, drop, Some, sym, ap, ◌∙◌, arith}
+use Rattle.std.proofs.Common.{◌≡◌, ◌+◌, ◌-◌, take, drop, length, Some, sym, ap, ◌∙◌, arith}
 use Rattle.mornings.specs.Places.{choice_at}
-use Rattle.replay.specs.Choices.{way_bits}
+use Rattle.replay.specs.Choices.{way_of}
+use Rattle.replay.proofs.Ways.{way_long}
 use Rattle.replay.proofs.Chosen.{choice_cut, choice_cut_way, choice_whole}
 use Rattle.replay.proofs.choices.choice_in.Goals as goal
 
-pub returns-then-bytes-lt5 : goal.returns-then-bytes-lt5
-returns-then-bytes-lt5 c = sym (choice_cut c.args.bytes.now c.args.at (omega arith))
+pub returns-in_err-checked_sub : goal.returns-in_err-checked_sub
+returns-in_err-checked_sub c = c.from_residual.ensures ∙ sym (choice_cut c.args.bytes.now c.args.at (omega (arith, c.in_err-checked_sub.ensures)))
 
-pub returns-then-at-bytes : goal.returns-then-at-bytes
-returns-then-at-bytes c = sym (choice_cut c.args.bytes.now c.args.at (omega arith))
+pub returns-then-branch : goal.returns-then-branch
+returns-then-branch c = sym (choice_cut c.args.bytes.now c.args.at (omega (arith, c.in_ok-checked_sub.ensures)))
 
-pub returns-then-next-bytes : goal.returns-then-next-bytes
-returns-then-next-bytes c =
+pub returns-in_err-steps : goal.returns-in_err-steps
+returns-in_err-steps c =
+    let at = ap (λ z. z.way_at) c.choice_at-choice.ensures in
     let to = ap (λ z. z.way_end) c.choice_at-choice.ensures in
-    sym (choice_cut_way c.args.bytes.now c.args.at (omega arith) (omega arith))
+    c.from_residual-in_err-steps.ensures
+    ∙ sym (choice_cut_way c.args.bytes.now c.args.at (omega (arith, c.in_ok-checked_sub.ensures)) (omega (arith, c.in_err-steps.ensures.lookup)))
 
 pub returns : goal.returns
 returns c =
@@ -22,8 +25,9 @@ returns c =
     let e = c.choice_at-choice.ensures in
     let at = ap (λ z. z.way_at) e in
     let to = ap (λ z. z.way_end) e in
-    let bits : c.way_bits-bits.result ≡ way_bits 0 (take ((choice_at s i).way_end - (i + 5)) (drop (i + 5) s)) =
-    c.way_bits-bits.ensures ∙ (λ j. way_bits 0 (take (to j - at j) (drop (at j) s))) in
-    ap (λ z. Some (record { deal = z.deal; way = record { bits = c.way_bits-bits.result; len = z.way_end - z.way_at }; next = z.way_end })) e
-    ∙ ap (λ z. Some (record { deal = (choice_at s i).deal; way = record { bits = z; len = (choice_at s i).way_end - (i + 5) }; next = (choice_at s i).way_end })) bits
-    ∙ sym (choice_whole s i (omega arith))
+    let look = c.in_ok-steps.ensures.lookup.0 in
+    let n = (choice_at s i).way_end - (i + 5) in
+    let steps : c.in_ok-steps.steps.now ≡ take n (drop (i + 5) s) = look.2 ∙ (λ j. take (to j - at j) (drop (at j) s)) in
+    let long : length (take n (drop (i + 5) s)) ≡ n = sym (ap length steps) ∙ omega (arith, look.3) in
+    let way = c.of.ensures ∙ ap way_of steps ∙ way_long (take n (drop (i + 5) s)) n long (omega arith) in
+    (λ j. Some (record { deal = (e j).deal; way = way j; next = (e j).way_end })) ∙ sym (choice_whole s i (omega arith))

@@ -4,15 +4,9 @@ use Rattle.std.proofs.lemmas.Int.{to_z-of_z}
 use Rattle.replay.specs.Days.{signed_at}
 use Rattle.replay.proofs.days.signed_at.Goals as goal
 
-pub returns-then-at-bytes : goal.returns-then-at-bytes
+pub returns-then-k-saturating_sub : goal.returns-then-k-saturating_sub
 unfolding signed_at
-returns-then-at-bytes c =
-    let past : (length c.args.bytes.now - c.args.at) / 8 ≤ c.args.k = omega arith in
-    rw (le-ltb c.args.k ((length c.args.bytes.now - c.args.at) / 8) past)
-
-pub returns-then-k-bytes : goal.returns-then-k-bytes
-unfolding signed_at
-returns-then-k-bytes c =
+returns-then-k-saturating_sub c =
     let past : (length c.args.bytes.now - c.args.at) / 8 ≤ c.args.k = omega arith in
     rw (le-ltb c.args.k ((length c.args.bytes.now - c.args.at) / 8) past)
 
@@ -20,5 +14,5 @@ pub returns : goal.returns
 unfolding signed_at
 returns c =
     let within : c.args.k < (length c.args.bytes.now - c.args.at) / 8 = omega arith in
-    let e = c.read_i64.ensures in
-    rw (lt-ltb c.args.k ((length c.args.bytes.now - c.args.at) / 8) within) (to_z-of_z w64 c.read_i64.result (search rules) ∙ e)
+    let e = c.read.ensures in
+    rw (lt-ltb c.args.k ((length c.args.bytes.now - c.args.at) / 8) within) (to_z-of_z w64 c.read.result (search rules) ∙ e)

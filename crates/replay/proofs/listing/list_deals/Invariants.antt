@@ -5,4 +5,4 @@ use Rattle.replay.proofs.InTurn.{MorningsListing}
 use Rattle.replay.proofs.listing.list_deals.Given as goal
 
 abbrev pub invariant-loop-t : goal.invariant-loop-t
-invariant-loop-t l = (xs : List DealIn) → AllRun l.kept l.days 0 (length l.days) xs → MorningsListing l.kept l.days l.t xs l.deals l.count
+invariant-loop-t l = (xs : List DealIn) → AllRun l.days.kept.now l.days.days.now 0 (length l.days.days.now) xs → MorningsListing l.days.kept.now l.days.days.now l.t xs l.deals l.count

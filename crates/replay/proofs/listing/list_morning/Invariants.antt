@@ -1,13 +1,10 @@
-use Rattle.std.proofs.Common.{◌≤◌, List, length}
+use Rattle.std.proofs.Common.{◌-◌, ◌≤◌, List, length}
 use Rattle.replay.specs.declared.listing.DealIn.{DealIn}
 use Rattle.replay.specs.Listing.{DealsRun}
 use Rattle.replay.proofs.InTurn.{Listing}
 use Rattle.replay.proofs.listing.list_morning.Given as goal
 
-abbrev pub invariant-loop-left : goal.invariant-loop-left
-invariant-loop-left l =
+abbrev pub invariant-loop : goal.invariant-loop
+invariant-loop l =
     (xs : List DealIn) → DealsRun l.bytes l.many 2 l.morning xs → l.initial.count ≤ length l.initial.deals →
-    Listing l.bytes l.morning l.left l.at l.initial.deals l.initial.count xs l.deals l.count
-
-abbrev pub decreases-loop-left : goal.decreases-loop-left
-decreases-loop-left l = l.left
+    Listing l.bytes l.morning (l.many - l.counter) l.at l.initial.deals l.initial.count xs l.deals l.count

@@ -1,5 +1,5 @@
 use Rattle.std.proofs.Common.{◌≡◌, ◌-◌, ◌*◌, ◌≤◌, length, take, replicate, pos, sym, subst}
-use Rattle.replay.specs.Payments.{Written}
+use Rattle.mornings.specs.Pairs.{Written}
 use Rattle.replay.specs.Settle.{grouped_payments, owed_by}
 use Rattle.replay.proofs.Paying.{zeros_long, zeros_none}
 use Rattle.replay.proofs.settle.pay_sorted.Goals as goal

@@ -1,9 +1,7 @@
-use Rattle.std.proofs.Common.{rules}
-use Rattle.replay.proofs.Holding.{push_room, push_full}
+use Rattle.replay.proofs.Holding.{pushed}
 use Rattle.replay.proofs.dues.Dues.push.Goals as goal
 
-pub returns-then-self-lt256 : goal.returns-then-self-lt256
-returns-then-self-lt256 c = push_room c.args.self.now.items c.args.self.now.count c.args.due (search rules) c.if-self-lt256.true
-
-pub returns-else-self-lt256 : goal.returns-else-self-lt256
-returns-else-self-lt256 c = push_full c.args.self.now.items c.args.self.now.count c.args.due c.if-self-lt256.false
+pub returns : goal.returns
+returns c xs h =
+    let e = c.try_push.ensures in
+    pushed c.try_push.result c.args.self.now.items c.try_push.new.self c.args.due xs e.variant.0 e.ok e.err e.full h

@@ -1,4 +1,0 @@
-use Rattle.replay.proofs.figure.+figure.Given as goal
-
-abbrev pub decreases-figure : goal.decreases-figure
-decreases-figure l = l.n

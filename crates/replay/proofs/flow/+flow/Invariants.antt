@@ -1,4 +1,0 @@
-use Rattle.replay.proofs.flow.+flow.Given as goal
-
-abbrev pub decreases-flow : goal.decreases-flow
-decreases-flow l = l.n
