@@ -2,27 +2,12 @@
 #![tactic(auto)]
 
 use anyhow::anyhow;
-use mornings::payments::read_payment;
-use mornings::{Ends, Refusal, Start, judge_morning, judge_start, numbered};
-use replay::days::DayAt;
-use replay::listing::DealIn;
-use replay::settle::pay_day;
+use history::{History, NotTaken};
+use mornings::{Start, judge_start};
 use std::env::Args;
 use std::{env, fs};
-use texts::stages::Stage;
 
-// What came: the bytes of the mornings taken, one behind the other, where each stands, and how many deals there are; and room to work in.
-#[derive(Drop)]
-struct Book {
-    kept: Vec<u8>,
-    days: Vec<DayAt>,
-    so_far: u32,
-    deals: Vec<DealIn>,
-    keys: Vec<u64>,
-    payments: Vec<u8>,
-}
-
-// The bytes of a file.
+// The bytes of a file. So in `house`: of what a file gives a library could promise nothing.
 fn bytes_of(rt: &HostRuntime, name: &str) -> anyhow::Result<Vec<u8>> {
     match fs::read(rt, name) {
         Ok(bytes) => Ok(bytes),
@@ -30,96 +15,21 @@ fn bytes_of(rt: &HostRuntime, name: &str) -> anyhow::Result<Vec<u8>> {
     }
 }
 
-fn print_refusal(rt: &HostRuntime, e: Refusal) -> anyhow::Result<()> {
-    let (number, place) = numbered(e);
-    println!(rt; "refused {number} at {place}")?;
-    Ok(())
-}
-
-// Prints the payments of a day, of which there are so many.
-fn print_payments(
-    rt: &HostRuntime,
-    day: usize,
-    payments: &[u8],
-    count: usize,
-) -> anyhow::Result<()> {
-    for k in 0..count {
-        if k < payments.len() / 13 {
-            let p = read_payment(payments, k);
-            let from = p.from;
-            let to = p.to;
-            let currency = p.currency;
-            let amount = p.amount;
-            println!(rt; "day {day} from {from} to {to} currency {currency} amount {amount}")?;
-        }
-    }
-    Ok(())
-}
-
-// Keeps a morning that was taken, and makes room for its deals.
-fn keep(book: &mut Book, start: Start, bytes: &[u8], parts: Ends) -> anyhow::Result<()> {
-    let from = book.kept.len();
-    book.kept.extend_from_slice(bytes)?;
-    let to = book.kept.len();
-    book.days.push(DayAt { from, to, parts })?;
-    book.so_far = book.so_far.saturating_add(parts.deals as u32);
-    let none = DealIn {
-        holder: 0,
-        other: 0,
-        day: 0,
-        morning: 0,
-        text_at: 0,
-        text_end: 0,
-    };
-    let n = book.so_far as usize;
-    book.deals.resize(n, none)?;
-    book.keys.resize(n, 0)?;
-    let room = 13 * start.currencies as usize;
-    book.payments.resize(n.saturating_mul(room), 0)?;
-    Ok(())
-}
-
-// A morning: its payments, or its refusal. One that is refused is not done at all: the next is tried as the same day.
-fn morning(rt: &HostRuntime, book: &mut Book, start: Start, bytes: &[u8]) -> anyhow::Result<()> {
-    let day = book.days.len();
-    let judged = judge_morning(bytes, start, day.min(65536) as u32, book.so_far, Stage::All);
-    match judged {
-        Err(e) => print_refusal(rt, e),
-        Ok(parts) => {
-            keep(book, start, bytes, parts)?;
-            let paid = pay_day(
-                book.kept.as_slice(),
-                book.days.as_slice(),
-                start,
-                book.deals.as_mut_slice(),
-                book.keys.as_mut_slice(),
-                book.payments.as_mut_slice(),
-            );
-            match paid {
-                Ok(count) => print_payments(rt, day, book.payments.as_slice(), count),
-                Err(_) => Err(anyhow!(format!(in rt.alloc(); "too little room")?)),
-            }
-        }
-    }
-}
-
+// Mornings, one after the other. One that is refused is not done at all: the next is tried as the same day.
 fn mornings(rt: &HostRuntime, start: Start, names: Args) -> anyhow::Result<()> {
-    let heap = rt.alloc();
-    let mut book = Book {
-        kept: Vec::new(heap),
-        days: Vec::new(heap),
-        so_far: 0,
-        deals: Vec::new(heap),
-        keys: Vec::new(heap),
-        payments: Vec::new(heap),
-    };
+    let mut history = History::new(rt.alloc(), start);
     for name in names {
         let bytes = bytes_of(rt, name.as_str())?;
-        morning(rt, &mut book, start, bytes.as_slice())?;
+        match history.take(bytes.as_slice()) {
+            Ok(()) => print!(rt; "{history}")?,
+            Err(NotTaken::Refused(refusal)) => println!(rt; "{refusal}")?,
+            Err(e) => return Err(anyhow!(format!(in rt.alloc(); "{e}")?)),
+        }
     }
     Ok(())
 }
 
+// The start, and then the mornings. So in `house`: what is done with each morning differs.
 fn run(rt: &HostRuntime) -> anyhow::Result<()> {
     let mut names = env::args(rt)?;
     let _program = names.next();
@@ -129,7 +39,7 @@ fn run(rt: &HostRuntime) -> anyhow::Result<()> {
     let bytes = bytes_of(rt, name.as_str())?;
     match judge_start(bytes.as_slice()) {
         Ok(start) => mornings(rt, start, names),
-        Err(e) => print_refusal(rt, e),
+        Err(e) => Ok(println!(rt; "{e}")?),
     }
 }
 
