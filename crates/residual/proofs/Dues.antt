@@ -1,14 +1,15 @@
 -- Amounts that are due, modulo 2^64: one more in a currency, and an amount seen through what stands above it.
-use Rattle.std.proofs.Common.{◌≡◌, ℕ, suc, ◌-◌, ◌<◌, ◌≤◌, eqb, ◌≢◌, List, [], ◌∷◌, length, get_or, set, ℤ, pos, ◌+ℤ◌, ◌-ℤ◌, neg_ℤ, sym, ap, ◌∙◌, subst, ⊎_elim, arith, w64}
+use Rattle.std.proofs.Common.{◌≡◌, ℕ, suc, ◌-◌, ◌<◌, ◌≤◌, eqb, List, [], ◌∷◌, length, get_or, ℤ, pos, ◌+ℤ◌, ◌-ℤ◌, neg_ℤ, sym, ap, ◌∙◌, ⊎_elim, arith, w64}
+use Rattle.std.specs.Prelude.{Option}
 use Rattle.std.specs.Int.{int_wrap}
 use Rattle.std.proofs.lemmas.List.{get_or-set_same, get_or-set_other, length-set}
 use Rattle.std.proofs.lemmas.Int.{ints, int_wrap_fits, SFits-int_wrap, int_wrap-add_right, int_wrap-sub_right}
-use Rattle.std.proofs.lemmas.Bool.{lt-ltb, le-ltb, eq-eqb, ne_eqb, cases_lt, cases_eq}
+use Rattle.std.proofs.lemmas.Bool.Decides.{nat_tests}
+use Rattle.std.proofs.lemmas.Bool.{eq-eqb, ne_eqb, cases_eq}
 use Rattle.deals.specs.Contract.{pick}
 use Rattle.deals.specs.Residual.{turn, scale, through}
 use Rattle.deals.specs.Residual as model
 use Rattle.deals.specs.Shared.{Entry, chain}
-use Rattle.residual.specs.declared.cells.Above.{Above}
 use Rattle.residual.specs.Layout.{above_at}
 use Rattle.residual.specs.Steps.{with_due, by_above, seen_through}
 use Rattle.residual.specs.Deal.{Coded, Table}
@@ -28,7 +29,7 @@ wrapped_neg_same : (a b : ℤ) → int_wrap w64 a ≡ int_wrap w64 b → int_wra
 wrapped_neg_same a b e = sym (wrapped_neg a) ∙ ap (λ z. int_wrap w64 (neg_ℤ z)) e ∙ wrapped_neg b
 
 -- an amount that is the same modulo 2^64 is so as it is seen through what stands above
-same_under : (w : model.Above) (o : ℕ) (rest : List model.Above) (z : Above) → Coded z w o → ((a b : ℤ) → int_wrap w64 a ≡ int_wrap w64 b → int_wrap w64 (through rest a) ≡ int_wrap w64 (through rest b)) →
+same_under : (w : model.Above) (o : ℕ) (rest : List model.Above) (z : Option ℕ) → Coded z w o → ((a b : ℤ) → int_wrap w64 a ≡ int_wrap w64 b → int_wrap w64 (through rest a) ≡ int_wrap w64 (through rest b)) →
     (a b : ℤ) → int_wrap w64 a ≡ int_wrap w64 b → int_wrap w64 (through (w ∷ rest) a) ≡ int_wrap w64 (through (w ∷ rest) b)
 unfolding through
 same_under turn o rest z c f a b e = f (neg_ℤ a) (neg_ℤ b) (wrapped_neg_same a b e)
@@ -49,7 +50,7 @@ through_none : (s : List ℕ) (n : ℕ) (a : ℤ) → 0 < n → seen_through n s
 unfolding above_at by_above
 through_none s n a h = through_step n s 0 a h
 
-right_under : (w : model.Above) (o : ℕ) (rest : List model.Above) (z : Above) (a : ℤ) (go : ℕ → ℤ → ℤ) → Coded z w o → ((b : ℤ) → int_wrap w64 (go o b) ≡ int_wrap w64 (through rest b)) →
+right_under : (w : model.Above) (o : ℕ) (rest : List model.Above) (z : Option ℕ) (a : ℤ) (go : ℕ → ℤ → ℤ) → Coded z w o → ((b : ℤ) → int_wrap w64 (go o b) ≡ int_wrap w64 (through rest b)) →
     ((b : ℤ) → int_wrap w64 (through rest (int_wrap w64 b)) ≡ int_wrap w64 (through rest b)) → int_wrap w64 (by_above go a z) ≡ int_wrap w64 (through (w ∷ rest) a)
 unfolding through by_above
 right_under turn o rest z a go c f g = ap (λ q. int_wrap w64 (by_above go a q)) c ∙ f (int_wrap w64 (neg_ℤ a)) ∙ g (neg_ℤ a)
@@ -69,37 +70,15 @@ through_right s (e ∷ older) (c, ol, h) n j le few a =
     (λ ne. rw (ne_eqb j (suc (length older)) ne) (through_right s older h n j (omega arith) (omega arith) a)) (cases_eq j (suc (length older)))
 
 -- an amount more in a currency
-due_within : (due : List ℤ) (k : ℕ) (a : ℤ) → k < length due → with_due due k a ≡ set due k (int_wrap w64 (get_or due k (pos 0) +ℤ a))
-unfolding with_due
-due_within due k a h = rw (lt-ltb k (length due) h)
-
-due_past : (due : List ℤ) (k : ℕ) (a : ℤ) → length due ≤ k → with_due due k a ≡ due
-unfolding with_due
-due_past due k a h = rw (le-ltb k (length due) h)
-
 pub length_due : (due : List ℤ) (k : ℕ) (a : ℤ) → length (with_due due k a) ≡ length due
-length_due due k a =
-    ⊎_elim (λ h. ap length (due_within due k a h) ∙ length-set due k (int_wrap w64 (get_or due k (pos 0) +ℤ a))) (λ h. ap length (due_past due k a h)) (cases_lt k (length due))
-
-due_same : (due : List ℤ) (k : ℕ) (a b : ℤ) → int_wrap w64 a ≡ int_wrap w64 b → k < length due →
-    int_wrap w64 (get_or (with_due due k a) k (pos 0)) ≡ int_wrap w64 (get_or due k (pos 0) +ℤ b)
-due_same due k a b e h =
-    ap (λ ds. int_wrap w64 (get_or ds k (pos 0))) (due_within due k a h)
-    ∙ ap (int_wrap w64) (get_or-set_same due k (int_wrap w64 (get_or due k (pos 0) +ℤ a)) (pos 0) h)
-    ∙ wrapped_twice (get_or due k (pos 0) +ℤ a)
-    ∙ sym (int_wrap-add_right w64 (get_or due k (pos 0)) a)
-    ∙ ap (λ z. int_wrap w64 (get_or due k (pos 0) +ℤ z)) e
-    ∙ int_wrap-add_right w64 (get_or due k (pos 0)) b
-
-due_other : (due : List ℤ) (k : ℕ) (a : ℤ) (q : ℕ) → q ≢ k → get_or (with_due due k a) q (pos 0) ≡ get_or due q (pos 0)
-due_other due k a q ne =
-    ⊎_elim
-    (λ h. ap (λ ds. get_or ds q (pos 0)) (due_within due k a h) ∙ get_or-set_other due k q (int_wrap w64 (get_or due k (pos 0) +ℤ a)) (pos 0) ne)
-    (λ h. ap (λ ds. get_or ds q (pos 0)) (due_past due k a h)) (cases_lt k (length due))
+unfolding with_due
+length_due due k a = grind (arith, nat_tests, length-set)
 
 pub due_more : (due : List ℤ) (k : ℕ) (a b : ℤ) → int_wrap w64 a ≡ int_wrap w64 b → (q : ℕ) → q < length due →
     int_wrap w64 (get_or (with_due due k a) q (pos 0)) ≡ int_wrap w64 (get_or due q (pos 0) +ℤ pick (eqb k q) b (pos 0))
+unfolding with_due
 due_more due k a b e q h =
-    ⊎_elim
-    (λ is. rw (eq-eqb k q is) (subst (λ p. int_wrap w64 (get_or (with_due due k a) p (pos 0)) ≡ int_wrap w64 (get_or due p (pos 0) +ℤ b)) is (due_same due k a b e (omega arith))))
-    (λ ne. rw (ne_eqb k q ne) (ap (int_wrap w64) (due_other due k a q (λ is. ne (sym is)) ∙ omega (arith, ints)))) (cases_eq k q)
+    let x = get_or due k (pos 0) in
+    let same : int_wrap w64 (x +ℤ a) ≡ int_wrap w64 (x +ℤ b) = sym (int_wrap-add_right w64 x a) ∙ ap (λ z. int_wrap w64 (x +ℤ z)) e ∙ int_wrap-add_right w64 x b in
+    let none : get_or due q (pos 0) +ℤ pos 0 ≡ get_or due q (pos 0) = omega (arith, ints) in
+    grind (arith, nat_tests, get_or-set_same, get_or-set_other, wrapped_twice)

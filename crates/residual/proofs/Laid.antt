@@ -1,11 +1,13 @@
 -- What stands in a deal's part after a contract's marks were written.
 use Rattle.std.proofs.Common.{◌≡◌, ℕ, suc, ◌+◌, ◌-◌, ◌%◌, ◌<◌, ◌≤◌, min, Bool, true, false, ◌&&◌, ◌⊎◌, List, ◌∷◌, ◌++◌, length, get_or, drop, ℤ, pos, negsuc, neg_ℤ, sym, refl, ap, ◌∙◌, subst, inl, inr, ⊎_elim, arith, w64, SFits}
 use Rattle.std.proofs.lemmas.List.{append_assoc, length-append, length-drop, get_or-drop, drop-drop, drop_at}
-use Rattle.deals.specs.Contract.{Figure, fixed, rate, day, plus, minus, times, most, less, Contract, nothing, pays, turned, both, choice, either, scaled, on_day, when, by_day}
-use Rattle.deals.specs.Promise.{size, thin, marks, figure_marks, PartsFit}
+use Rattle.deals.specs.Contract.{Contract, nothing, pays, turned, both, choice, either, scaled, on_day, when, by_day}
+use Rattle.deals.specs.Promise.{size, thin, marks, PartsFit}
+use Rattle.deals.proofs.Place.{marks_some}
 use Rattle.deals.proofs.Sizes.{size_is}
+use Rattle.texts.proofs.Standing.{nodes_length}
 use Rattle.texts.specs.Reading.{capped, capped_amount}
-use Rattle.texts.specs.Nodes.{figure_nodes, nodes_of}
+use Rattle.texts.specs.Nodes.{nodes_of}
 use Rattle.texts.specs.declared.nodes.Node.{Node}
 use Rattle.texts.specs.declared.nodes.Node.TheVariants.{Nothing, Pays, Turned, Both, On}
 use Rattle.residual.specs.declared.cells.Node.TheVariants as node
@@ -55,52 +57,14 @@ and_parts true b e = (refl, e)
 and_parts false b e = let z : true ≡ false = sym e in (e, grind arith)
 
 -- a contract has as many nodes as marks
-figure_nodes_many : (e : Figure) → length (figure_nodes e) ≡ figure_marks e
-unfolding figure_marks
-figure_nodes_many (fixed a) = refl
-figure_nodes_many (rate k n) = refl
-figure_nodes_many day = refl
-figure_nodes_many (plus e f) = omega (arith, length-append (figure_nodes e) (figure_nodes f), figure_nodes_many e, figure_nodes_many f)
-figure_nodes_many (minus e f) = omega (arith, length-append (figure_nodes e) (figure_nodes f), figure_nodes_many e, figure_nodes_many f)
-figure_nodes_many (times e f) = omega (arith, length-append (figure_nodes e) (figure_nodes f), figure_nodes_many e, figure_nodes_many f)
-figure_nodes_many (most e f) = omega (arith, length-append (figure_nodes e) (figure_nodes f), figure_nodes_many e, figure_nodes_many f)
-figure_nodes_many (less e f) = omega (arith, length-append (figure_nodes e) (figure_nodes f), figure_nodes_many e, figure_nodes_many f)
-
-pub nodes_many : (x : Contract) → length (nodes_of x) ≡ marks x
-unfolding marks
-nodes_many nothing = refl
-nodes_many (pays k a) = refl
-nodes_many (turned x) = omega (arith, nodes_many x)
-nodes_many (both x y) = omega (arith, length-append (nodes_of x) (nodes_of y), nodes_many x, nodes_many y)
-nodes_many (choice x y) = omega (arith, length-append (nodes_of x) (nodes_of y), nodes_many x, nodes_many y)
-nodes_many (either e x y) =
-    omega (arith, length-append (figure_nodes e) (nodes_of x ++ nodes_of y), length-append (nodes_of x) (nodes_of y), figure_nodes_many e, nodes_many x, nodes_many y)
-nodes_many (scaled e x) = omega (arith, length-append (figure_nodes e) (nodes_of x), figure_nodes_many e, nodes_many x)
-nodes_many (on_day d x) = omega (arith, nodes_many x)
-nodes_many (when e x) = omega (arith, length-append (figure_nodes e) (nodes_of x), figure_nodes_many e, nodes_many x)
-nodes_many (by_day d x) = omega (arith, nodes_many x)
-
-marks_some : (x : Contract) → 0 < marks x
-unfolding marks
-marks_some nothing = omega arith
-marks_some (pays k a) = omega arith
-marks_some (turned x) = omega arith
-marks_some (both x y) = omega arith
-marks_some (choice x y) = omega arith
-marks_some (either e x y) = omega arith
-marks_some (scaled e x) = omega arith
-marks_some (on_day d x) = omega arith
-marks_some (when e x) = omega arith
-marks_some (by_day d x) = omega arith
-
 -- behind a contract's nodes
 drop_past : (ns : List Node) (i : ℕ) (x : Contract) (rest : List Node) → drop i ns ≡ nodes_of x ++ rest → drop (i + marks x) ns ≡ rest
-drop_past ns i x rest e = sym (drop-drop (marks x) i ns) ∙ ap (drop (marks x)) e ∙ drop_at (nodes_of x) rest (marks x) (nodes_many x)
+drop_past ns i x rest e = sym (drop-drop (marks x) i ns) ∙ ap (drop (marks x)) e ∙ drop_at (nodes_of x) rest (marks x) (nodes_length x)
 
 heads_within : (y : Contract) (ns : List Node) (q : ℕ) (rest : List Node) → drop q ns ≡ nodes_of y ++ rest → q < length ns
 heads_within y ns q rest e =
     let many : length (drop q ns) ≡ length (nodes_of y ++ rest) = ap length e in
-    omega (arith, many, length-drop q ns, length-append (nodes_of y) rest, nodes_many y, marks_some y)
+    omega (arith, many, length-drop q ns, length-append (nodes_of y) rest, nodes_length y, marks_some y)
 
 -- a contract was written from place i on: it stands there, and the other nodes are as they were
 pub record Lays (x : Contract) (i : ℕ) (s : List ℕ) (l : Laid) : Type 0 where

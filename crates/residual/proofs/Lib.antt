@@ -6,3 +6,5 @@ pub mod Meaning
 pub mod Waking
 pub mod Laid
 pub mod Opening
+pub mod Made
+pub mod Behind

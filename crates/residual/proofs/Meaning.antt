@@ -4,6 +4,7 @@ use Rattle.std.specs.Int.{int_wrap}
 use Rattle.std.proofs.lemmas.List.{append-nil, append_assoc, length-append}
 use Rattle.std.proofs.lemmas.Int.{ints, int_wrap-add_same}
 use Rattle.std.proofs.lemmas.Bool.{lt-ltb, le-ltb, eq-eqb, ne_eqb, cases_lt, cases_eq}
+use Rattle.std.proofs.lemmas.Bool.Decides.{nat_tests}
 use Rattle.deals.specs.Contract.{Contract, Path, pick}
 use Rattle.deals.specs.Residual.{turn, through, starts, Due, Today, come_to}
 use Rattle.deals.specs.Shared.{Entry, chain, Slot, Kept, kept_none, kept_waiting, kept_joined, shared_at_day, shared_begins}
@@ -85,9 +86,7 @@ grows (is_pays h) n p es j = omega arith
 grows (is_turned h x) n p es j = omega (arith, grows x n (p ++ 0 ∷ []) (record { what = turn; over = j } ∷ es) (suc (length es)))
 grows (is_both {x = x} h a b) n p es j = omega (arith, grows a n (p ++ 0 ∷ []) es j, grows b n (p ++ 1 ∷ []) (shared_begins n (p ++ 0 ∷ []) x es j).entries j)
 grows (is_on_day {d = d} h l a) n p es j =
-    ⊎_elim (λ lt. rw (lt-ltb n.number d lt) (omega arith))
-    (λ le. rw (le-ltb n.number d le) (⊎_elim (λ is. rw (eq-eqb n.number d is) (grows a n (p ++ 0 ∷ []) es j)) (λ ne. rw (ne_eqb n.number d ne) (omega arith)) (cases_eq n.number d)))
-    (cases_lt n.number d)
+    let under = grows a n (p ++ 0 ∷ []) es j in grind (arith, nat_tests)
 
 -- what is asked of a step: the part stands, the entry above it is there, and there is room for what comes
 pub record Fits (st : State) (es : List Entry) (slots : List Slot) (j : ℕ) (k : Kept) : Type 0 where

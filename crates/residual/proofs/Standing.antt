@@ -1,9 +1,10 @@
 -- What stands in a deal's part, as rows and entries are added.
-use Rattle.std.proofs.Common.{◌≡◌, ℕ, suc, ◌+◌, ◌*◌, ◌<◌, ◌≤◌, min, ltb, List, [], ◌∷◌, ◌++◌, length, sym, ap, ◌∙◌, subst, inl, inr, ⊎_elim, arith}
+use Rattle.std.proofs.Common.{◌≡◌, ℕ, suc, ◌+◌, ◌*◌, ◌<◌, ◌≤◌, min, List, [], ◌∷◌, ◌++◌, length, sym, ap, ◌∙◌, subst, inl, inr, arith}
 use Rattle.std.proofs.ByRecursion.{All-append, All-weaker}
 use Rattle.std.proofs.lemmas.List.{length-append}
-use Rattle.std.proofs.lemmas.Bool.{lt-ltb, le-ltb, cases_lt}
-use Rattle.deals.specs.Contract.{Contract, pick}
+use Rattle.std.proofs.lemmas.Bool.Decides.{nat_tests}
+use Rattle.std.proofs.lemmas.Bool.{lt-ltb}
+use Rattle.deals.specs.Contract.{Contract}
 use Rattle.deals.specs.Residual.{turn, Waits, starts, first_true, by_choice}
 use Rattle.deals.specs.Shared.{Entry, Slot}
 use Rattle.deals.specs.Sleep.{wake, row_wake, smaller}
@@ -62,7 +63,7 @@ table_same s s' (e ∷ older) f (c, o, h) =
 
 -- the first day of the rows, and one more
 smaller_is : (a b : ℕ) → smaller a b ≡ min a b
-smaller_is a b = ⊎_elim (λ lt. simp (lt-ltb a b lt) (omega arith)) (λ le. simp (le-ltb a b le) (omega arith)) (cases_lt a b)
+smaller_is a b = grind (arith, nat_tests)
 
 wake_min : (slots : List Slot) (r : Slot) → wake (slots ++ r ∷ []) ≡ min (row_wake r.waits) (wake slots)
 unfolding wake
@@ -71,9 +72,6 @@ wake_min (q ∷ rest) r =
     smaller_is (row_wake q.waits) (wake (rest ++ r ∷ []))
     ∙ ap (min (row_wake q.waits)) (wake_min rest r)
     ∙ omega (arith, smaller_is (row_wake q.waits) (wake rest))
-
-pub wake_more : (slots : List Slot) (r : Slot) → wake (slots ++ r ∷ []) ≡ pick (ltb (row_wake r.waits) (wake slots)) (row_wake r.waits) (wake slots)
-wake_more slots r = wake_min slots r ∙ sym (smaller_is (row_wake r.waits) (wake slots))
 
 -- one more row stands behind the others
 pub row_stands : (st : State) (es : List Entry) (slots : List Slot) (r : Row) (q : Slot) → 12288 ≤ length st.bytes → length slots < 96 → length es ≤ 255 → r.day < 65536 → r.part ≤ 256 → r.end ≤ 256 →
@@ -93,7 +91,7 @@ row_stands st es slots r q long few entries d p e inside above wakes awaited h =
     (record {
       rows_are = omega (arith, length-append slots (q ∷ []));
       used_are = h.used_are;
-      wake_is = rw h.wake_is (ap (λ z. pick (ltb z (wake slots)) z (wake slots)) (sym wakes) ∙ sym (wake_more slots q));
+      wake_is = omega (arith, h.wake_is, wakes, wake_min slots q);
       table = table_same s s' es (λ j le. above_same apart long j (inr (omega arith))) h.table;
       inside = All-append (λ z. z.entry ≤ length es) slots (q ∷ []) h.inside (inside, tt);
       rows =

@@ -1,5 +1,5 @@
 -- Which contract stands among a deal's nodes, which rows and entries its bytes stand for, and so what is left of it. Assumes nothing: these are definitions.
-use Rattle.std.specs.Prelude.{◌≡◌, ℕ, suc, ◌+◌, ◌<◌, ◌≤◌, true, List, [], ◌∷◌, length, ℤ, pos, ◌+ℤ◌, slice_index_or}
+use Rattle.std.specs.Prelude.{◌≡◌, ℕ, suc, ◌+◌, ◌<◌, ◌≤◌, true, List, [], ◌∷◌, length, ℤ, pos, ◌+ℤ◌, Some, Option, slice_index_or}
 use Rattle.std.specs.Int.{int_wrap, w64}
 use Rattle.deals.specs.Contract.{Contract, nothing, pays, turned, both, on_day}
 use Rattle.deals.specs.Promise.{thin, ContractFits}
@@ -10,10 +10,7 @@ use Rattle.deals.specs.Sleep.{wake}
 use Rattle.texts.specs.declared.nodes.Node.{Node as Mark}
 use Rattle.texts.specs.Nodes.{nodes_of}
 use Rattle.residual.specs.declared.cells.Row.{Row}
-use Rattle.residual.specs.declared.cells.Above.{Above}
-use Rattle.residual.specs.declared.cells.Above.TheVariants.{Turn}
 use Rattle.residual.specs.declared.cells.Node.TheVariants as node
-use Rattle.residual.specs.declared.begin.Left.{Left}
 use Rattle.residual.specs.declared.deal.Summary.{Summary}
 use Rattle.residual.specs.Layout.{row_at, node_at, above_at}
 
@@ -26,8 +23,8 @@ pub data Stands (s : List ℕ) : ℕ → ℕ → Contract → Type 0 where
   is_on_day : {i e d : ℕ} {x : Contract} → node_at s i ≡ node.OnDay d → d < 65536 → Stands s (i + 1) e x → Stands s i e (on_day d x)
 
 -- an entry, as the bytes have it
-abbrev pub Coded : Above → model.Above → ℕ → Type 0
-Coded a turn over = a ≡ Turn over
+abbrev pub Coded : Option ℕ → model.Above → ℕ → Type 0
+Coded a turn over = a ≡ Some over
 Coded a (scale v) over = ⊥
 
 -- the entries, the newest first; each names an older one, or none
@@ -47,7 +44,7 @@ Rows s k [] = Unit {0}
 Rows s k (r ∷ rest) = ((row_at s k).above ≡ r.entry) × Awaited s (row_at s k) r.waits × Rows s (k + 1) rest
 
 -- so many entries and rows, and the day of the first row
-pub record LeftStands (s : List ℕ) (l : Left) (es : List Entry) (slots : List Slot) : Type 0 where
+pub record LeftStands (s : List ℕ) (l : Summary) (es : List Entry) (slots : List Slot) : Type 0 where
   pub rows_are : l.rows ≡ length slots
   pub used_are : l.used ≡ length es
   pub wake_is : l.wake ≡ wake slots
@@ -60,7 +57,7 @@ pub record Holds (s : List ℕ) (k : Summary) (es : List Entry) (slots : List Sl
   pub rows_are : k.rows ≡ length slots
   pub wake_is : k.wake ≡ wake slots
   pub few : length slots ≤ 96
-  pub stands : 0 < length slots → LeftStands s (record { rows = k.rows; used = k.used; wake = k.wake }) es slots
+  pub stands : 0 < length slots → LeftStands s k es slots
 
 -- a deal was woken on a day: its part holds what is then left, and what is due is added up, modulo 2^64, currency by currency
 pub record Woken (n : Today) (es : List Entry) (slots : List Slot) (k' : Summary) (s' : List ℕ) (due due' : List ℤ) : Type 0 where

@@ -11,13 +11,16 @@ pub record Laid : Type 0 where
   pub bytes : List ℕ
   pub next : ℕ
 
+abbrev pub written : List ℕ → ℕ → Laid
+written s i = record { bytes = s; next = i }
+
 unfoldable pub one_laid : List ℕ → ℕ → Laid
-one_laid s i = record { bytes = put_node s i node.Nothing; next = i + 1 }
+one_laid s i = written (put_node s i node.Nothing) (i + 1)
 
 -- what a mark does, by what the parts under it do
 unfoldable pub by_mark : (ℕ → List ℕ → Laid) → ℕ → List ℕ → Node → Laid
 by_mark go i s Nothing = one_laid s i
-by_mark go i s (Pays k a) = record { bytes = put_node s i (node.Pays (k % 65536) a); next = i + 1 }
+by_mark go i s (Pays k a) = written (put_node s i (node.Pays (k % 65536) a)) (i + 1)
 by_mark go i s Turned = go (i + 1) (put_node s i node.Turned)
 by_mark go i s Both = go (go (i + 1) s).next (put_node (go (i + 1) s).bytes i (node.Both (go (i + 1) s).next))
 by_mark go i s Choice = one_laid s i
@@ -36,5 +39,5 @@ by_mark go i s Max = one_laid s i
 by_mark go i s Less = one_laid s i
 
 unfoldable pub laid : ℕ → List Node → ℕ → List ℕ → Laid
-laid zero ms i s = record { bytes = s; next = i }
-laid (suc n) ms i s = pick (nat_lt i (length ms)) (by_mark (λ i' s'. laid n ms i' s') i s (slice_index_or ms i Nothing)) (record { bytes = s; next = i })
+laid zero ms i s = written s i
+laid (suc n) ms i s = pick (nat_lt i (length ms)) (by_mark (λ i' s'. laid n ms i' s') i s (slice_index_or ms i Nothing)) (written s i)

@@ -1,6 +1,7 @@
 -- Where things lie in a deal's part of the lent bytes, 16 bytes each: up to 96 rows from the front on, the 256 nodes of the contract from 1,536 on, and from 5,632 on
 -- up to 256 entries for what stands above a part. Assumes nothing: these are definitions.
-use Rattle.std.specs.Prelude.{ℕ, ◌+◌, ◌*◌, List, ◌==◌, nat_lt}
+use Rattle.std.specs.Prelude.{ℕ, ◌+◌, ◌*◌, List, map, ◌==◌, nat_lt, Some, None, Option}
+use Rattle.std.specs.List.{range_with_len}
 use Rattle.std.specs.Int.{w64}
 use Rattle.std.proofs.Common.{to_z, of_z}
 use Rattle.octets.specs.Octets.{word, put_word}
@@ -8,8 +9,6 @@ use Rattle.deals.specs.Contract.{pick}
 use Rattle.residual.specs.declared.cells.Row.{Row}
 use Rattle.residual.specs.declared.cells.Node.{Node}
 use Rattle.residual.specs.declared.cells.Node.TheVariants.{Nothing, Pays, Turned, Both, OnDay}
-use Rattle.residual.specs.declared.cells.Above.{Above}
-use Rattle.residual.specs.declared.cells.Above.TheVariants.{Whole, Turn}
 
 abbrev pub node_place : ℕ → ℕ
 node_place i = 1536 + 16 * i
@@ -23,6 +22,10 @@ row_at s k = record { day = word 4 s (16 * k); part = word 2 s (16 * k + 4); end
 
 unfoldable pub put_row : List ℕ → ℕ → Row → List ℕ
 put_row s k r = put_word 2 (put_word 2 (put_word 2 (put_word 4 s (16 * k) r.day) (16 * k + 4) r.part) (16 * k + 6) r.end) (16 * k + 8) r.above
+
+-- the first n rows
+abbrev pub first_rows : List ℕ → ℕ → List Row
+first_rows s n = map (row_at s) (range_with_len 0 n)
 
 -- a node: what it is, a currency, where its second part begins, and an amount or a day
 unfoldable pub node_in : List ℕ → ℕ → Node
@@ -43,12 +46,12 @@ put_node s i Turned = put_word 2 s (node_place i) 2
 put_node s i (Both q) = put_word 2 (put_word 2 s (node_place i) 3) (node_place i + 4) q
 put_node s i (OnDay d) = put_word 4 (put_word 2 s (node_place i) 4) (node_place i + 8) d
 
--- what stands above a part, by the number of its entry: nothing for 0 and for what is no entry
-unfoldable pub above_in : List ℕ → ℕ → Above
-above_in s o = pick (word 2 s o == 1) (Turn (word 2 s (o + 2))) Whole
+-- what stands above a part, by the number of its entry: it is turned, and this is the entry of what stands above that. Nothing for 0 and for what is no entry
+unfoldable pub above_in : List ℕ → ℕ → Option ℕ
+above_in s o = pick (word 2 s o == 1) (Some (word 2 s (o + 2))) None
 
-unfoldable pub above_at : List ℕ → ℕ → Above
-above_at s j = pick (nat_lt 0 j) (pick (nat_lt j 256) (above_in s (above_place j)) Whole) Whole
+unfoldable pub above_at : List ℕ → ℕ → Option ℕ
+above_at s j = pick (nat_lt 0 j) (pick (nat_lt j 256) (above_in s (above_place j)) None) None
 
 -- turned, and what is above that
 unfoldable pub put_turn : List ℕ → ℕ → ℕ → List ℕ

@@ -1,29 +1,30 @@
 -- What the code does to a deal's part, step by step, as definitions: a part of the contract begins, rows wake. What that means is said in Deal. Assumes nothing.
-use Rattle.std.specs.Prelude.{ℕ, zero, suc, ◌+◌, List, length, ℤ, pos, ◌+ℤ◌, neg_ℤ, ◌==◌, nat_lt, slice_index_or, slice_set}
+use Rattle.std.specs.Prelude.{ℕ, zero, suc, ◌+◌, min, List, [], ◌∷◌, length, ℤ, pos, ◌+ℤ◌, neg_ℤ, ◌==◌, nat_lt, Some, None, Option, slice_index_or, slice_set}
 use Rattle.std.specs.Int.{int_wrap, w64}
 use Rattle.deals.specs.Contract.{pick}
 use Rattle.residual.specs.declared.cells.Row.{Row}
 use Rattle.residual.specs.declared.cells.Node.{Node}
 use Rattle.residual.specs.declared.cells.Node.TheVariants.{Nothing, Pays, Turned, Both, OnDay}
-use Rattle.residual.specs.declared.cells.Above.{Above}
-use Rattle.residual.specs.declared.cells.Above.TheVariants.{Whole, Turn}
-use Rattle.residual.specs.declared.begin.Left.{Left}
+use Rattle.residual.specs.declared.deal.Summary.{Summary}
 use Rattle.residual.specs.Layout.{put_row, node_at, above_at, put_turn}
 
 -- a deal's part, how many rows and entries it has now, and what is due in each currency
 pub record State : Type 0 where
   pub bytes : List ℕ
-  pub left : Left
+  pub left : Summary
   pub due : List ℤ
+
+abbrev pub state : List ℕ → Summary → List ℤ → State
+state s k due = record { bytes = s; left = k; due = due }
 
 -- an amount more in a currency, if there is such a one
 unfoldable pub with_due : List ℤ → ℕ → ℤ → List ℤ
 with_due due k a = pick (nat_lt k (length due)) (slice_set due k (int_wrap w64 (slice_index_or due k (pos 0) +ℤ a))) due
 
 -- an amount seen through what stands above, from entry j on; at most n entries
-unfoldable pub by_above : (ℕ → ℤ → ℤ) → ℤ → Above → ℤ
-by_above go a Whole = a
-by_above go a (Turn over) = go over (int_wrap w64 (neg_ℤ a))
+unfoldable pub by_above : (ℕ → ℤ → ℤ) → ℤ → Option ℕ → ℤ
+by_above go a None = a
+by_above go a (Some over) = go over (int_wrap w64 (neg_ℤ a))
 
 unfoldable pub seen_through : ℕ → List ℕ → ℕ → ℤ → ℤ
 seen_through zero s j a = a
@@ -35,7 +36,7 @@ with_row st r =
     pick (nat_lt st.left.rows 96)
     (record {
       bytes = put_row st.bytes st.left.rows r;
-      left = record { rows = st.left.rows + 1; used = st.left.used; wake = pick (nat_lt r.day st.left.wake) r.day st.left.wake };
+      left = record { rows = st.left.rows + 1; used = st.left.used; wake = min st.left.wake r.day };
       due = st.due;
     })
     st
@@ -62,15 +63,11 @@ unfoldable pub begun : ℕ → ℕ → ℕ → ℕ → ℕ → State → State
 begun zero t i e j st = st
 begun (suc n) t i e j st = pick (nat_lt i e) (by_node (λ i' e' j' st'. begun n t i' e' j' st') t i e j st (node_at st.bytes i)) st
 
--- a row that is none
-abbrev pub no_row : Row
-no_row = record { day = 0; part = 0; end = 0; above = 0 }
-
 -- one row on day t: before its day it goes on waiting, on it its part begins
 unfoldable pub row_woken : ℕ → Row → State → State
 row_woken t r st = pick (nat_lt t r.day) (with_row st r) (pick (t == r.day) (begun 256 t r.part r.end r.above st) st)
 
--- so many rows from place k on, one after the other
-unfoldable pub woken : ℕ → ℕ → List Row → ℕ → State → State
-woken zero t rows k st = st
-woken (suc n) t rows k st = woken n t rows (k + 1) (row_woken t (slice_index_or rows k no_row) st)
+-- rows, one after the other
+unfoldable pub woken : ℕ → List Row → State → State
+woken t [] st = st
+woken t (r ∷ rows) st = woken t rows (row_woken t r st)

@@ -1,8 +1,9 @@
-// A deal's part of the lent bytes, 16 bytes at a time: rows of what waits, nodes of the contract, and entries for what stands above a part.
-ghost use Rattle.std.specs.Prelude.{◌≡◌, ◌<◌, ◌≤◌, length};
+// A deal's part of the lent bytes, 16 bytes at a time: rows of what waits, nodes of the contract, and entries for what stands above a part. All lies in lent bytes, so that each is named by its number.
+ghost use Rattle.std.specs.Prelude.{◌≡◌, ◌<◌};
 ghost use Rattle.residual.specs.Layout.{row_at, put_row, node_at, put_node, above_at, put_turn};
 
-use octets::{read_i64, read_u16, read_u32, write_i64, write_u16, write_u32};
+use crate::deal::PART;
+use octets::Word;
 
 pub const ROWS: usize = 96;
 
@@ -13,7 +14,7 @@ const NODES_AT: usize = 1536;
 const ABOVE_AT: usize = 5632;
 
 // A part that waits for a day: where it begins and ends among the nodes, and the entry of what stands above it.
-#[derive(Clone, Copy)]
+#[derive(Clone, Copy, Default)]
 pub struct Row {
     pub day: u32,
     pub part: u16,
@@ -31,104 +32,97 @@ pub enum Node {
     OnDay(u32),
 }
 
-// What stands above a part: nothing; or it is turned, with the entry of what stands above that.
-#[derive(Clone, Copy)]
-pub enum Above {
-    Whole,
-    Turn(u16),
-}
-
-pub(crate) fn read_row(part: &[u8], k: usize) -> Row
-    requires long { 12288 ≤ length part.now }
-    requires few { k < 96 }
+#[tactic(auto, unfolding(crate::specs::Layout::row_at))]
+pub(crate) fn read_row(part: &[u8; PART], k: usize) -> Row
+    requires { k < 96 }
     ensures { result ≡ row_at part.now k }
 {
     let at = 16 * k;
     Row {
-        day: read_u32(part, at),
-        part: read_u16(part, at + 4),
-        end: read_u16(part, at + 6),
-        above: read_u16(part, at + 8),
+        day: u32::read(part, at),
+        part: u16::read(part, at + 4),
+        end: u16::read(part, at + 6),
+        above: u16::read(part, at + 8),
     }
 }
 
-pub(crate) fn write_row(part: &mut [u8], k: usize, row: Row)
-    requires long { 12288 ≤ length part.old }
-    requires few { k < 96 }
+#[tactic(auto, unfolding(crate::specs::Layout::put_row))]
+pub(crate) fn write_row(part: &mut [u8; PART], k: usize, row: Row)
+    requires { k < 96 }
     ensures { part.new ≡ put_row part.old k row }
 {
     let at = 16 * k;
-    write_u32(part, at, row.day);
-    write_u16(part, at + 4, row.part);
-    write_u16(part, at + 6, row.end);
-    write_u16(part, at + 8, row.above);
+    row.day.write(part, at);
+    row.part.write(part, at + 4);
+    row.end.write(part, at + 6);
+    row.above.write(part, at + 8);
 }
 
-// The node at a place; it is nothing where there is none.
-pub(crate) fn read_node(part: &[u8], i: usize) -> Node
-    requires { 12288 ≤ length part.now }
+// The node at a place; it is nothing where there is none. The lent bytes have a number for each kind of node.
+#[tactic(auto, unfolding(crate::specs::Layout::node_at, crate::specs::Layout::node_in))]
+pub(crate) fn read_node(part: &[u8; PART], i: usize) -> Node
     ensures { result ≡ node_at part.now i }
 {
     if i >= NODES {
         return Node::Nothing;
     }
     let at = NODES_AT + 16 * i;
-    match read_u16(part, at) {
-        1 => Node::Pays(read_u16(part, at + 2), read_i64(part, at + 8)),
+    match u16::read(part, at) {
+        1 => Node::Pays(u16::read(part, at + 2), i64::read(part, at + 8)),
         2 => Node::Turned,
-        3 => Node::Both(read_u16(part, at + 4)),
-        4 => Node::OnDay(read_u32(part, at + 8)),
+        3 => Node::Both(u16::read(part, at + 4)),
+        4 => Node::OnDay(u32::read(part, at + 8)),
         _ => Node::Nothing,
     }
 }
 
-pub(crate) fn write_node(part: &mut [u8], i: usize, node: Node)
-    requires long { 12288 ≤ length part.old }
-    requires few { i < 256 }
+#[tactic(auto, unfolding(crate::specs::Layout::put_node))]
+pub(crate) fn write_node(part: &mut [u8; PART], i: usize, node: Node)
+    requires { i < 256 }
     ensures { part.new ≡ put_node part.old i node }
 {
     let at = NODES_AT + 16 * i;
     match node {
-        Node::Nothing => write_u16(part, at, 0),
+        Node::Nothing => 0u16.write(part, at),
         Node::Pays(k, a) => {
-            write_u16(part, at, 1);
-            write_u16(part, at + 2, k);
-            write_i64(part, at + 8, a);
+            1u16.write(part, at);
+            k.write(part, at + 2);
+            a.write(part, at + 8);
         }
-        Node::Turned => write_u16(part, at, 2),
+        Node::Turned => 2u16.write(part, at),
         Node::Both(second) => {
-            write_u16(part, at, 3);
-            write_u16(part, at + 4, second);
+            3u16.write(part, at);
+            second.write(part, at + 4);
         }
         Node::OnDay(day) => {
-            write_u16(part, at, 4);
-            write_u32(part, at + 8, day);
+            4u16.write(part, at);
+            day.write(part, at + 8);
         }
     }
 }
 
-// What stands above, by the number of its entry; nothing for 0 and where there is no entry.
-pub(crate) fn read_above(part: &[u8], j: usize) -> Above
-    requires { 12288 ≤ length part.now }
+// What stands above, by the number of its entry: it is turned, and this is the entry of what stands above that. Nothing for 0 and where there is no entry.
+#[tactic(auto, unfolding(crate::specs::Layout::above_at, crate::specs::Layout::above_in))]
+pub(crate) fn read_above(part: &[u8; PART], j: usize) -> Option<u16>
     ensures { result ≡ above_at part.now j }
 {
     if j == 0 || j >= NODES {
-        return Above::Whole;
+        return None;
     }
     let at = ABOVE_AT + 16 * j;
-    match read_u16(part, at) {
-        1 => Above::Turn(read_u16(part, at + 2)),
-        _ => Above::Whole,
+    match u16::read(part, at) {
+        1 => Some(u16::read(part, at + 2)),
+        _ => None,
     }
 }
 
 // An entry for what is turned.
-pub(crate) fn write_turn(part: &mut [u8], j: usize, over: u16)
-    requires long { 12288 ≤ length part.old }
-    requires few { j < 256 }
+#[tactic(auto, unfolding(crate::specs::Layout::put_turn))]
+pub(crate) fn write_turn(part: &mut [u8; PART], j: usize, over: u16)
+    requires { j < 256 }
     ensures { part.new ≡ put_turn part.old j over }
 {
     let at = ABOVE_AT + 16 * j;
-    write_u16(part, at, 1);
-    write_u16(part, at + 2, over);
+    1u16.write(part, at);
+    over.write(part, at + 2);
 }

@@ -1,19 +1,17 @@
 // A deal's part of the lent bytes: it is opened with its contract, and woken on a day.
-ghost use Rattle.std.specs.Prelude.{◌≡◌, ℕ, ◌<◌, ◌≤◌, length, slice_index_or};
+ghost use Rattle.std.specs.Prelude.{◌≡◌, ◌≤◌, take};
 ghost use Rattle.residual.specs.Deal.{Opens, Wakes};
-ghost use Rattle.residual.specs.Layout.{row_at};
-ghost use Rattle.residual.specs.Steps.{no_row, woken};
+ghost use Rattle.residual.specs.Layout.{first_rows};
+ghost use Rattle.residual.specs.Steps.{state, woken};
 
-use crate::begin::{DEEP, Left, begin, push_row};
+use crate::begin::{DEEP, begin, push_row};
 use crate::cells::{ROWS, Row, read_row, write_row};
 use crate::lay::lay;
+use std::array::from_fn;
 use texts::nodes::Node as Mark;
 
 // A deal's part of the lent bytes is as long as this.
 pub const PART: usize = 12288;
-
-// No day is as late.
-const NEVER: u32 = 65536;
 
 // What is kept of a deal beside its part: the day before which it need not be looked at, and how many rows and entries it has.
 #[derive(Clone, Copy)]
@@ -23,17 +21,23 @@ pub struct Summary {
     pub used: u16,
 }
 
+// Nothing waits. No day is as late as this one: the lent bytes hold it, so that a deal sleeps by one comparison of days.
+const NOTHING: Summary = Summary {
+    wake: 65536,
+    rows: 0,
+    used: 0,
+};
+
 // A deal that is new, by its contract's marks: it waits for the day on which it begins. What can be no deal is left as it is, with nothing to wait for.
 pub fn open(part: &mut [u8], marks: &[Mark], from: u32) -> Summary
     ensures { Opens from marks.now result part.old part.new }
 {
-    if part.len() < PART || marks.len() > DEEP {
-        return Summary {
-            wake: NEVER,
-            rows: 0,
-            used: 0,
-        };
+    if marks.len() > DEEP {
+        return NOTHING;
     }
+    let Some(part) = part.first_chunk_mut::<PART>() else {
+        return NOTHING;
+    };
     let end = lay(part, marks, DEEP, 0) as u16;
     write_row(
         part,
@@ -48,44 +52,34 @@ pub fn open(part: &mut [u8], marks: &[Mark], from: u32) -> Summary
     Summary {
         wake: from,
         rows: 1,
-        used: 0,
+        ..NOTHING
     }
 }
 
 // The first rows, by value; the others are of no account.
-fn read_rows(part: &[u8], count: usize) -> [Row; ROWS]
-    requires long { 12288 ≤ length part.now }
-    requires few { count ≤ 96 }
-    ensures long { length result ≡ 96 }
-    ensures rows { (k : ℕ) → k < count → slice_index_or result k no_row ≡ row_at part.now k }
+fn read_rows(part: &[u8; PART], count: usize) -> [Row; ROWS]
+    requires { count ≤ 96 }
+    ensures { take count result ≡ first_rows part.now count }
 {
-    let mut rows = [Row {
-        day: 0,
-        part: 0,
-        end: 0,
-        above: 0,
-    }; ROWS];
-    for k in 0..count {
-        rows[k] = read_row(part, k);
-    }
-    rows
+    from_fn(|k| if k < count {
+        read_row(part, k)
+    } else {
+        Row::default()
+    })
 }
 
 // The rows on day t, one after the other: those of the day begin, and those of days to come go on waiting.
-fn wake_rows(part: &mut [u8], rows: &[Row], t: u32, left: &mut Left, due: &mut [i64])
-    requires { 12288 ≤ length part.old }
-    ensures bytes { part.new ≡ (woken (length rows.now) t rows.now 0 (record { bytes = part.old; left = left.old; due = due.old })).bytes }
-    ensures left { left.new ≡ (woken (length rows.now) t rows.now 0 (record { bytes = part.old; left = left.old; due = due.old })).left }
-    ensures due { due.new ≡ (woken (length rows.now) t rows.now 0 (record { bytes = part.old; left = left.old; due = due.old })).due }
+#[tactic(auto, using(crate::proofs::Unroll::woken_steps), unfolding(crate::specs::Steps::row_woken))]
+fn wake_rows(part: &mut [u8; PART], rows: &[Row], t: u32, left: &mut Summary, due: &mut [i64])
+    ensures { state part.new left.new due.new ≡ woken t rows.now (state part.old left.old due.old) }
 {
-    'rows: for k in 0..rows.len() {
-        let row = rows[k];
+    'rows: for &row in rows {
         if t < row.day {
             push_row(part, left, row);
             continue 'rows;
         }
         if t == row.day {
-            begin(part, DEEP, t, row.part, row.end, row.above, left, due);
+            begin(part, DEEP, row, left, due);
         }
     }
 }
@@ -95,19 +89,17 @@ pub fn wake(part: &mut [u8], kept: Summary, t: u32, due: &mut [i64]) -> Summary
     ensures { Wakes t kept result part.old due.old part.new due.new }
 {
     let count = kept.rows as usize;
-    if part.len() < PART || count > ROWS {
+    if count > ROWS {
         return kept;
     }
-    let rows = read_rows(part, count);
-    let mut left = Left {
-        rows: 0,
-        used: kept.used,
-        wake: NEVER,
+    let Some(part) = part.first_chunk_mut::<PART>() else {
+        return kept;
     };
-    wake_rows(part, &rows[0..count], t, &mut left, due);
-    Summary {
-        wake: left.wake,
-        rows: left.rows,
-        used: left.used,
-    }
+    let rows = read_rows(part, count);
+    let mut left = Summary {
+        used: kept.used,
+        ..NOTHING
+    };
+    wake_rows(part, &rows[..count], t, &mut left, due);
+    left
 }

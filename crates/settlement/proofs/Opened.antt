@@ -23,10 +23,10 @@ use Rattle.mornings.specs.Places.{deal_at, IsDeal}
 use Rattle.mornings.proofs.Handed.{handed_out, walked}
 use Rattle.residual.specs.declared.deal.Summary.{Summary}
 use Rattle.residual.specs.Deal.{Opens}
-use Rattle.settlement.specs.Directory.{part_of, EntryPut, PartPut}
+use Rattle.settlement.specs.Directory.{part_of, EntryPut}
 use Rattle.settlement.specs.Keeping.{Keeps}
 use Rattle.settlement.specs.Opening.{new_deal, OpenedDeal, OpenedNext}
-use Rattle.settlement.proofs.Places.{part_lent, length_lent}
+use Rattle.settlement.proofs.Places.{deal_lent}
 use Rattle.settlement.proofs.Waking.{part_long}
 use Rattle.settlement.proofs.Words.{keeps_moved}
 
@@ -36,23 +36,16 @@ pub opened_lent : (c holder other from : ℕ) (s s' bs : List ℕ) (marks : List
     EntryPut (put_mid (16384 * c) (16384 * c + 12288 - 16384 * c) s bs) c (record { holder = holder; other = other; kept = kept }) s' → OpenedDeal c holder other from marks s s'
 unfolding part_of
 opened_lent c holder other from s s' bs marks kept fits long opens entry =
-    let s₁ = put_mid (16384 * c) (16384 * c + 12288 - 16384 * c) s bs in
-    let same : length s₁ ≡ length s = length_lent s bs (16384 * c) 12288 (omega arith) long in
-    let part : PartPut s c bs s₁ = part_lent s bs c fits long in
+    let put = deal_lent s s' bs c (record { holder = holder; other = other; kept = kept }) fits long entry in
     let mine = subst (λ z. Opens from marks kept (field z s (16384 * c)) bs) (add-sub_cancel_left (16384 * c) 12288) opens in
-    let then : part_of s' c ≡ bs = entry.parts c (omega (arith, same)) ∙ part.part in
     record {
       keeps = λ x rs cs is fit few t early.
           record {
-            holder = ap (λ z. z.holder) entry.entry;
-            other = ap (λ z. z.other) entry.entry;
-            left = rw (then, entry.entry) (mine x rs cs is fit few t early (omega (arith, part_long s c fits)));
+            holder = ap (λ z. z.holder) put.entry;
+            other = ap (λ z. z.other) put.entry;
+            left = rw (put.part, put.entry) (mine x rs cs is fit few t early (omega (arith, part_long s c fits)));
           };
-      others =
-          record {
-            parts = λ k ne room. entry.parts k (omega (arith, same)) ∙ part.parts k ne room;
-            entries = λ k ne room. entry.entries k ne (omega (arith, same)) ∙ part.entries k room;
-          };
+      others = put.others;
     }
 
 -- the deal at a place, by what its bytes say

@@ -7,7 +7,8 @@ use Rattle.std.proofs.ByRecursion.{All-get_or, All-weaker, all_kept_by, all_shuf
 use Rattle.std.proofs.lemmas.List.Sorted.{sum_by-IsPermutation}
 use Rattle.std.proofs.lemmas.List.{take_all}
 use Rattle.std.proofs.lemmas.List.Sums.{sum_by-cons}
-use Rattle.std.proofs.lemmas.Bool.{cases_Bool, cases_eq, cases_lt, eq-eqb, ne_eqb, lt-ltb, le-ltb, leb-false}
+use Rattle.std.proofs.lemmas.Bool.Decides.{nat_tests}
+use Rattle.std.proofs.lemmas.Bool.{cases_Bool, cases_eq, cases_lt, eq-eqb, ne_eqb, lt-ltb, leb-false}
 use Rattle.deals.specs.Contract.{Morning, pick}
 use Rattle.deals.specs.Promise.{size}
 use Rattle.deals.specs.Residual.{Waits, starts, first_true, by_choice, Today}
@@ -34,8 +35,7 @@ use Rattle.settlement.proofs.Words.{keeps_moved}
 -- A DEAL THAT SLEEPS
 
 smaller_least : (a b : ℕ) → (smaller a b ≤ a) × (smaller a b ≤ b)
-smaller_least a b =
-    ⊎_elim (λ lt. rw (lt-ltb a b lt) (omega arith, omega arith)) (λ le. rw (le-ltb a b le) (omega arith, omega arith)) (cases_lt a b)
+smaller_least a b = (grind (arith, nat_tests), grind (arith, nat_tests))
 
 -- rows that all wait for a day to come
 rows_sleep : (s : List ℕ) (k : ℕ) (slots : List Slot) (n : Today) → Rows s k slots → n.number < wake slots → sleeps n slots ≡ true
@@ -233,11 +233,11 @@ module _ (t n : ℕ) (s : List ℕ) (h : House) (m : Morning) (num : h.number �
               let lt : c < length (deals_today h m) = omega (arith, kept.many) in
               let all : take (length ws) ws ≡ ws = take_all (length ws) ws (omega arith) in
               ⊎_elim
-              (λ awake.
+              (λ (awake : wakes_at t s c ≡ true).
               let once : times c ws ≡ 1 = times_is c below ∙ ap {B = ℕ} (λ b. pick b 1 0) awake in
               let some : 0 < times c (take (length ws) ws) = rw all (omega (arith, once)) in
               subst (Keeps s' c) (sym (by_words.0.stepped c lt)) (w.walked.done c below some))
-              (λ asleep.
+              (λ (asleep : wakes_at t s c ≡ false).
               let none : times c (take (length ws) ws) ≡ 0 = ap (times c) all ∙ times_is c below ∙ ap {B = ℕ} (λ b. pick b 1 0) asleep in
               subst (Keeps s' c) (sym (by_words.0.skipped c lt asleep))
               (keeps_moved s s' c (get_or (deals_today h m) c gone) (w.walked.parts c below none) (w.walked.entries c below none) (kept.keeps c below)))

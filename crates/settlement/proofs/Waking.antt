@@ -1,5 +1,5 @@
 -- The morning of one deal in the lent bytes, and what it adds to what a pair comes to.
-use Rattle.std.proofs.Common.{◌≡◌, ℕ, ◌+◌, ◌-◌, ◌*◌, ◌<◌, ◌≤◌, List, length, get_or, ℤ, pos, ◌+ℤ◌, ◌-ℤ◌, neg_ℤ, sym, refl, ap, ◌∙◌, subst, arith, w64}
+use Rattle.std.proofs.Common.{◌≡◌, ℕ, ◌+◌, ◌-◌, ◌*◌, ◌<◌, ◌≤◌, List, length, get_or, ℤ, pos, ◌+ℤ◌, ◌-ℤ◌, neg_ℤ, sym, ap, ◌∙◌, subst, arith, w64}
 use native.Mathlib.Nat.{add-sub_cancel_left}
 use borrow.Rule.Slice.PartMut.{put_mid}
 use Rattle.std.specs.Int.{int_wrap}
@@ -13,48 +13,36 @@ use Rattle.deals.specs.Payments.{adds}
 use Rattle.residual.specs.declared.deal.Summary.{Summary}
 use Rattle.residual.specs.Deal.{Holds, Wakes}
 use Rattle.settlement.specs.declared.directory.Entry.{Entry}
-use Rattle.settlement.specs.Directory.{entry_of, part_of, EntryPut, PartPut}
+use Rattle.settlement.specs.Directory.{entry_of, part_of, EntryPut}
 use Rattle.settlement.specs.Keeping.{WokenDeal, Netted}
-use Rattle.settlement.proofs.Places.{part_lent, length_lent}
+use Rattle.settlement.proofs.Places.{deal_lent}
 
 pub part_long : (s : List ℕ) (c : ℕ) → 16384 * c + 16384 ≤ length s → length (part_of s c) ≡ 12288
 unfolding part_of
 part_long s c fits = simp (length-take, length-drop) (omega arith)
 
 -- the part is lent, then the entry is written
-woken_parts : (t c : ℕ) (s s₁ s' bs : List ℕ) (due due' : List ℤ) (e e' : Entry) → length s₁ ≡ length s → e ≡ entry_of s c → e'.holder ≡ e.holder → e'.other ≡ e.other →
-    PartPut s c bs s₁ → EntryPut s₁ c e' s' → Wakes t e.kept e'.kept (part_of s c) due bs due' → 16384 * c + 16384 ≤ length s → WokenDeal t c s due s' due'
-unfolding held_step owes_step
-woken_parts t c s s₁ s' bs due due' e e' same is holders others part entry wakes fits =
-    record {
-      means = λ n h num room k.
-          let m = wakes n h.entries h.slots num (omega (arith, part_long s c fits)) (subst (λ z. Holds (part_of s c) z.kept h.entries h.slots) (sym is) k.left) room.rows room.entries in
-          let then : part_of s' c ≡ bs = entry.parts c (omega arith) ∙ part.part in
-          record {
-            keeps =
-                record {
-                  holder = ap (λ z. z.holder) entry.entry ∙ holders ∙ ap (λ z. z.holder) is ∙ k.holder;
-                  other = ap (λ z. z.other) entry.entry ∙ others ∙ ap (λ z. z.other) is ∙ k.other;
-                  left = rw (then, entry.entry) m.holds;
-                };
-            paid = m.paid;
-          };
-      others =
-          record {
-            parts = λ k ne room. entry.parts k (omega arith) ∙ part.parts k ne room;
-            entries = λ k ne room. entry.entries k ne (omega arith) ∙ part.entries k room;
-          };
-    }
-
 pub woken_lent : (t c : ℕ) (s s' bs : List ℕ) (due due' : List ℤ) (e : Entry) (kept : Summary) → e ≡ entry_of s c → 16384 * c + 16384 ≤ length s →
     length bs ≡ length (field (16384 * c + 12288 - 16384 * c) s (16384 * c)) → Wakes t e.kept kept (field (16384 * c + 12288 - 16384 * c) s (16384 * c)) due bs due' →
     EntryPut (put_mid (16384 * c) (16384 * c + 12288 - 16384 * c) s bs) c (record { holder = e.holder; other = e.other; kept = kept }) s' → WokenDeal t c s due s' due'
-unfolding part_of
+unfolding part_of held_step owes_step
 woken_lent t c s s' bs due due' e kept is fits long wakes entry =
-    let n = 16384 * c + 12288 - 16384 * c in
-    woken_parts t c s (put_mid (16384 * c) n s bs) s' bs due due' e (record { holder = e.holder; other = e.other; kept = kept }) (length_lent s bs (16384 * c) 12288 (omega arith) long) is refl refl
-    (part_lent s bs c fits long) entry
-    (subst (λ m. Wakes t e.kept kept (field m s (16384 * c)) due bs due') (add-sub_cancel_left (16384 * c) 12288) wakes) fits
+    let put = deal_lent s s' bs c (record { holder = e.holder; other = e.other; kept = kept }) fits long entry in
+    let mine = subst (λ m. Wakes t e.kept kept (field m s (16384 * c)) due bs due') (add-sub_cancel_left (16384 * c) 12288) wakes in
+    record {
+      means = λ n h num room k.
+          let m = mine n h.entries h.slots num (omega (arith, part_long s c fits)) (subst (λ z. Holds (part_of s c) z.kept h.entries h.slots) (sym is) k.left) room.rows room.entries in
+          record {
+            keeps =
+                record {
+                  holder = ap (λ z. z.holder) put.entry ∙ ap (λ z. z.holder) is ∙ k.holder;
+                  other = ap (λ z. z.other) put.entry ∙ ap (λ z. z.other) is ∙ k.other;
+                  left = rw (put.part, put.entry) m.holds;
+                };
+            paid = m.paid;
+          };
+      others = put.others;
+    }
 
 -- what one deal adds to what a pair comes to, by who holds it
 pub netted_gives : (t c : ℕ) (s s' : List ℕ) (gets gives gives' : List ℤ) (e : Entry) → e ≡ entry_of s c → e.holder < e.other → WokenDeal t c s gives s' gives' → Netted t c s gets gives s' gets gives'

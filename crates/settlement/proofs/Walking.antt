@@ -1,20 +1,21 @@
 -- The walk, word by word: what is paid so far, and what the words to come still give, is what all words give.
-use Rattle.std.proofs.Common.{◌≡◌, ℕ, zero, suc, ◌+◌, ◌-◌, ◌*◌, ◌%◌, ◌<◌, ◌≤◌, min, true, ◌≢◌, List, [], ◌∷◌, ◌++◌, map, length, get_or, take, drop, replicate, ℤ, pos, ◌+ℤ◌, sym, refl, ap, ◌∙◌, subst, inl, inr, ⊎_elim, arith, w64, SFits}
+use Rattle.std.proofs.Common.{◌≡◌, ℕ, zero, suc, ◌+◌, ◌*◌, ◌/◌, ◌%◌, ◌<◌, ◌≤◌, true, ◌≢◌, List, [], ◌∷◌, ◌++◌, map, length, get_or, drop, replicate, ℤ, pos, ◌+ℤ◌, sym, refl, ap, ◌∙◌, subst, inl, inr, ⊎_elim, arith, w64, SFits}
 use Rattle.std.specs.List.{AllByRecursion}
 use Rattle.std.specs.Int.{int_wrap}
-use Rattle.std.proofs.lemmas.List.{append_assoc, append-nil, length-append, map-append, drop_more, drop_all, length-take, length-replicate, get_or-take, get_or-replicate}
+use Rattle.std.proofs.lemmas.List.{append_assoc, append-nil, length-append, map-append, drop_more, drop_all, get_or-replicate}
 use Rattle.std.proofs.lemmas.Int.{ints, int_wrap_fits, int_wrap-add_same}
-use Rattle.std.proofs.lemmas.Bool.{cases_Bool, eq-eqb, ne_eqb, cases_eq, lt-ltb, le-ltb, cases_lt}
+use Rattle.std.proofs.lemmas.Bool.Decides.{nat_tests}
+use Rattle.std.proofs.lemmas.Bool.{cases_Bool, eq-eqb, ne_eqb, cases_eq}
 use Rattle.deals.specs.Contract.{pick, larger, is_zero}
 use Rattle.deals.specs.Residual.{Today}
 use Rattle.deals.specs.House.{Held, Owes, owes_step}
 use Rattle.deals.specs.Lines.{Line, pair, for_each, line, pair_lines}
 use Rattle.deals.specs.Sleep.{smaller}
 use Rattle.deals.specs.Payments.{Payment, written, low_of, high_of, pair_of, adds, paired, grouped}
-use Rattle.settlement.specs.declared.walk.Pair.{Pair}
+use Rattle.mornings.specs.declared.pairs.Pair.{Pair}
 use Rattle.settlement.specs.Keeping.{net_of, Netted}
 use Rattle.settlement.specs.Paying.{Written, PaysPair, pair_payments}
-use Rattle.settlement.specs.Walk.{pair_in, number_in, owing, Ready, Walked, NextPair, AllWalked}
+use Rattle.settlement.specs.Walk.{pair_in, number_in, owing, Ready, Walked, AllWalked}
 use Rattle.settlement.proofs.Words.{walked_none, walked_more, net_one}
 use Rattle.settlement.proofs.Writing.{written_start}
 
@@ -50,33 +51,39 @@ pair_whole : (cs a b : ℕ) (sums : ℕ → ℤ) → AllByRecursion Whole (pair_
 unfolding pair_lines
 pair_whole cs a b sums h k lt = line_whole a b k (sums k) (each_whole (λ q. line a b q (sums q)) 0 cs k h (omega arith) (omega arith))
 
+-- the pair of a word
+abbrev pub word_pair : ℕ → Pair
+word_pair w = record { low = pair_in w / 65536 % 65536; high = pair_in w % 65536 }
+
 -- the walk so far: with pair `at`, of which sums have come together modulo 2^64
-pub record Walking (n cs : ℕ) (see : ℕ → Today) (hs : ℕ → Held) (s₀ ws was : List ℕ) (i : ℕ) (s : List ℕ) (at : Pair) (gets gives : List ℤ) (payments : List ℕ) : Type 0 where
+pub record Walking (n cs : ℕ) (see : ℕ → Today) (hs : ℕ → Held) (s₀ ws was : List ℕ) (i : ℕ) (s : List ℕ) (at : Pair) (count : ℕ) (gets gives : List ℤ) (payments : List ℕ) : Type 0 where
   pub walked : Walked n see hs s₀ ws i s
   pub sums : ℕ → ℤ
   pub done : List Payment
   pub comes_to : (k : ℕ) → k < cs → int_wrap w64 (net_of gets gives k) ≡ int_wrap w64 (sums k)
-  pub paid : Written was done at.count payments
+  pub paid : Written was done count payments
+  pub small : at.high < 65536
   pub total : grouped cs (owing see hs ws) ≡ done ++ map written (paired cs at.low at.high sums (owing see hs (drop i ws)))
   pub whole : AllByRecursion Whole (paired cs at.low at.high sums (owing see hs (drop i ws)))
 
 module _ (t n cs : ℕ) (see : ℕ → Today) (hs : ℕ → Held) (s₀ ws was : List ℕ) (ready : Ready t n cs see hs s₀ ws (length was)) where
-  pub walking_start : (gets gives : List ℤ) → length gets ≡ cs → length gives ≡ cs → ((k : ℕ) → k < length gets → get_or gets k (pos 0) ≡ pos 0) → ((k : ℕ) → k < length gives → get_or gives k (pos 0) ≡ pos 0) →
-      Walking n cs see hs s₀ ws was 0 s₀ (record { low = 0; high = 0; count = 0 }) gets gives was
+  -- nothing has come together yet
+  pub walking_start : Walking n cs see hs s₀ ws was 0 s₀ (record { low = 0; high = 0 }) 0 (replicate cs (pos 0)) (replicate cs (pos 0)) was
   unfolding grouped
-  walking_start gets gives long-gets long-gives no_gets no_gives =
+  walking_start =
       record {
         walked = walked_none n see hs s₀ ws;
         sums = λ k. pos 0;
         done = [];
-        comes_to = λ k lt. ap (int_wrap w64) (omega (arith, ints, no_gets k (omega arith), no_gives k (omega arith)));
+        comes_to = λ k lt. ap (int_wrap w64) (omega (arith, ints, get_or-replicate cs k (pos 0) (pos 0) lt));
         paid = written_start was;
+        small = omega arith;
         total = refl;
         whole = ready.whole;
       }
 
   -- what is still to be paid of the pair fits 64 bits, and there is room for it
-  module _ (i : ℕ) (s : List ℕ) (at : Pair) (gets gives : List ℤ) (payments : List ℕ) (w : Walking n cs see hs s₀ ws was i s at gets gives payments) (long-gets : length gets ≡ cs)
+  module _ (i : ℕ) (s : List ℕ) (at : Pair) (count : ℕ) (gets gives : List ℤ) (payments : List ℕ) (w : Walking n cs see hs s₀ ws was i s at count gets gives payments) (long-gets : length gets ≡ cs)
       (rest : List Line) (is : paired cs at.low at.high w.sums (owing see hs (drop i ws)) ≡ pair_lines cs at.low at.high w.sums ++ rest) where
     exact : (k : ℕ) → k < length gets → int_wrap w64 (net_of gets gives k) ≡ w.sums k
     exact k lt =
@@ -92,7 +99,7 @@ module _ (t n cs : ℕ) (see : ℕ → Today) (hs : ℕ → Held) (s₀ ws was :
         ∙ ap (λ z. w.done ++ z) (map-append written (pair_lines cs at.low at.high w.sums) rest)
         ∙ sym (append_assoc w.done (map written (pair_lines cs at.low at.high w.sums)) (map written rest))
 
-    room : 13 * at.count + 13 * length (pair_payments cs at.low at.high w.sums) ≤ length was
+    room : 13 * count + 13 * length (pair_payments cs at.low at.high w.sums) ≤ length was
     room =
         let many : length (grouped cs (owing see hs ws)) ≡ length ((w.done ++ pair_payments cs at.low at.high w.sums) ++ map written rest) = ap length split in
         omega (arith, ready.fits, many, w.paid.count, length-append (w.done ++ pair_payments cs at.low at.high w.sums) (map written rest), length-append w.done (pair_payments cs at.low at.high w.sums))
@@ -103,9 +110,9 @@ module _ (t n cs : ℕ) (see : ℕ → Today) (hs : ℕ → Held) (s₀ ws was :
       pub no_gives : (k : ℕ) → k < length gives' → get_or gives' k (pos 0) ≡ pos 0
       pub total_is : grouped cs (owing see hs ws) ≡ (w.done ++ pair_payments cs at.low at.high w.sums) ++ map written rest
 
-    pub pair_done : (count' : ℕ) (gets' gives' : List ℤ) (payments' : List ℕ) → PaysPair at.low at.high at.count gets gives payments count' gets' gives' payments' → PairDone count' gets' gives' payments'
+    pub pair_done : (count' : ℕ) (gets' gives' : List ℤ) (payments' : List ℕ) → PaysPair at.low at.high count gets gives payments count' gets' gives' payments' → PairDone count' gets' gives' payments'
     pair_done count' gets' gives' payments' pays =
-        let p = pays was w.done w.sums w.paid exact (subst (λ z. 13 * at.count + 13 * length (pair_payments z at.low at.high w.sums) ≤ length was) (sym long-gets) room) in
+        let p = pays was w.done w.sums w.paid exact (subst (λ z. 13 * count + 13 * length (pair_payments z at.low at.high w.sums) ≤ length was) (sym long-gets) room) in
         record {
           paid_more = subst (λ z. Written was (w.done ++ pair_payments z at.low at.high w.sums) count' payments') long-gets p.written_all;
           no_gets = p.gets;
@@ -115,15 +122,18 @@ module _ (t n cs : ℕ) (see : ℕ → Today) (hs : ℕ → Held) (s₀ ws was :
 
   -- a deal's pair as its word has it
   small_low : (a b : ℕ) → a < 65536 → b < 65536 → smaller a b < 65536
-  small_low a b h g = ⊎_elim (λ lt. rw (lt-ltb a b lt) h) (λ le. rw (le-ltb a b le) g) (cases_lt a b)
+  small_low a b h g = grind (arith, nat_tests)
 
   small_high : (a b : ℕ) → a < 65536 → b < 65536 → larger a b < 65536
-  small_high a b h g = ⊎_elim (λ lt. rw (lt-ltb a b lt) g) (λ le. rw (le-ltb a b le) h) (cases_lt a b)
+  small_high a b h g = grind (arith, nat_tests)
 
-  -- one word more
-  module _ (i : ℕ) (lt : i < length ws) (s : List ℕ) (at : Pair) (gets gives : List ℤ) (payments : List ℕ) (w : Walking n cs see hs s₀ ws was i s at gets gives payments) (long-gets : length gets ≡ cs)
-      (at' : Pair) (gets' gives' : List ℤ) (payments' : List ℕ) (next : NextPair at (get_or ws i 0) gets gives payments at' gets' gives' payments') (long-gets' : length gets' ≡ cs) (long-gives' : length gives' ≡ cs)
-      (s'' : List ℕ) (gets'' gives'' : List ℤ) (same : length s'' ≡ length s) (netted : Netted t (number_in (get_or ws i 0)) s gets' gives' s'' gets'' gives'') where
+  -- one word more: what the pair before has come to was paid, if the next is another
+  module _ (i : ℕ) (lt : i < length ws) (s : List ℕ) (at : Pair) (count : ℕ) (gets gives : List ℤ) (payments : List ℕ) (w : Walking n cs see hs s₀ ws was i s at count gets gives payments) (long-gets : length gets ≡ cs)
+      (count' : ℕ) (gets' gives' : List ℤ) (payments' : List ℕ) (long-gets' : length gets' ≡ cs) (long-gives' : length gives' ≡ cs) (s'' : List ℕ) (gets'' gives'' : List ℤ) (same : length s'' ≡ length s)
+      (netted : Netted t (number_in (get_or ws i 0)) s gets' gives' s'' gets'' gives'') where
+    abbrev pub next : Pair
+    next = word_pair (get_or ws i 0)
+
     owes : Owes
     owes = owes_step (see (number_in (get_or ws i 0))) (hs (number_in (get_or ws i 0)))
 
@@ -149,11 +159,11 @@ module _ (t n cs : ℕ) (see : ℕ → Today) (hs : ℕ → Held) (s₀ ws was :
     unfolding pair_of owes
     pair_is = ready.pairs i lt
 
-    low_is : at'.low ≡ low_of owes
-    low_is = next.low_is ∙ omega (arith, pair_is, low_small, high_small)
+    low_is : next.low ≡ low_of owes
+    low_is = omega (arith, pair_is, low_small, high_small)
 
-    high_is : at'.high ≡ high_of owes
-    high_is = next.high_is ∙ omega (arith, pair_is, low_small, high_small)
+    high_is : next.high ≡ high_of owes
+    high_is = omega (arith, pair_is, low_small, high_small)
 
     step : (k : ℕ) → k < cs → int_wrap w64 (net_of gets'' gives'' k) ≡ int_wrap w64 (net_of gets' gives' k +ℤ adds owes k)
     unfolding owes
@@ -163,17 +173,17 @@ module _ (t n cs : ℕ) (see : ℕ → Today) (hs : ℕ → Held) (s₀ ws was :
     on = walked_more t n cs see hs s₀ ws (length was) ready i lt s s'' same gets' gives' gets'' gives'' netted w.walked
 
     -- of the same pair
-    same_pair : (at' ≡ at) × (gets' ≡ gets) × (gives' ≡ gives) × (payments' ≡ payments) → Walking n cs see hs s₀ ws was (i + 1) s'' at' gets'' gives'' payments'
+    pub same_pair : next ≡ at → count' ≡ count → gets' ≡ gets → gives' ≡ gives → payments' ≡ payments → Walking n cs see hs s₀ ws was (i + 1) s'' next count' gets'' gives'' payments'
     unfolding paired pair_of rest
-    same_pair (at-is, gets-are, gives-are, payments-are) =
-        let low : at.low ≡ low_of owes = ap (λ z. z.low) (sym at-is) ∙ low_is in
-        let high : at.high ≡ high_of owes = ap (λ z. z.high) (sym at-is) ∙ high_is in
+    same_pair is count-is gets-are gives-are payments-are =
+        let low : at.low ≡ low_of owes = ap (λ z. z.low) (sym is) ∙ low_is in
+        let high : at.high ≡ high_of owes = ap (λ z. z.high) (sym is) ∙ high_is in
         let sums' : ℕ → ℤ = λ k. w.sums k +ℤ adds owes k in
         let goes : paired cs at.low at.high w.sums (owing see hs (drop i ws)) ≡ paired cs at.low at.high sums' rest =
         ap (paired cs at.low at.high w.sums) ahead
         ∙ ap (λ b. pick b (paired cs at.low at.high sums' rest) (pair_lines cs at.low at.high w.sums ++ paired cs (low_of owes) (high_of owes) (adds owes) rest))
         (eq-eqb (pair at.low at.high) (pair (low_of owes) (high_of owes)) (omega (arith, low, high))) in
-        rw (at-is, payments-are)
+        subst (λ z. Walking n cs see hs s₀ ws was (i + 1) s'' z count' gets'' gives'' payments') (sym is)
         (record {
           walked = on;
           sums = sums';
@@ -182,55 +192,45 @@ module _ (t n cs : ℕ) (see : ℕ → Today) (hs : ℕ → Held) (s₀ ws was :
               step k in-cs
               ∙ ap (λ z. int_wrap w64 (z +ℤ adds owes k)) (ap (λ z. net_of z gives' k) gets-are ∙ ap (λ z. net_of gets z k) gives-are)
               ∙ int_wrap-add_same w64 (net_of gets gives k) (w.sums k) (adds owes k) (w.comes_to k in-cs);
-          paid = w.paid;
+          paid = rw (count-is, payments-are) w.paid;
+          small = w.small;
           total = w.total ∙ ap (λ z. w.done ++ map written z) goes;
           whole = subst (AllByRecursion Whole) goes w.whole;
         })
 
     -- of another
-    other_pair : pair_in (get_or ws i 0) % 4294967296 ≢ at.low * 65536 + at.high → PaysPair at.low at.high at.count gets gives payments at'.count gets' gives' payments' →
-        Walking n cs see hs s₀ ws was (i + 1) s'' at' gets'' gives'' payments'
+    pub other_pair : next ≢ at → PaysPair at.low at.high count gets gives payments count' gets' gives' payments' → Walking n cs see hs s₀ ws was (i + 1) s'' next count' gets'' gives'' payments'
     unfolding paired pair_of rest
     other_pair ne pays =
+        let apart : low_of owes ≡ at.low → high_of owes ≡ at.high → ⊥ = λ low high. ne (λ k. record { low = (low_is ∙ low) k; high = (high_is ∙ high) k }) in
         let more = paired cs (low_of owes) (high_of owes) (adds owes) rest in
         let goes : paired cs at.low at.high w.sums (owing see hs (drop i ws)) ≡ pair_lines cs at.low at.high w.sums ++ more =
         ap (paired cs at.low at.high w.sums) ahead
         ∙ ap (λ b. pick b (paired cs at.low at.high (λ k. w.sums k +ℤ adds owes k) rest) (pair_lines cs at.low at.high w.sums ++ more))
-        (ne_eqb (pair at.low at.high) (pair (low_of owes) (high_of owes)) (λ e. omega (arith, ne, pair_is, low_small, high_small, e))) in
-        let p = pair_done i s at gets gives payments w long-gets more goes at'.count gets' gives' payments' pays in
-        let as_at : more ≡ paired cs at'.low at'.high (adds owes) rest =
-        ap (λ z. paired cs z (high_of owes) (adds owes) rest) (sym low_is) ∙ ap (λ z. paired cs at'.low z (adds owes) rest) (sym high_is) in
+        (ne_eqb (pair at.low at.high) (pair (low_of owes) (high_of owes)) (λ e. apart (omega (arith, high_small, w.small, e)) (omega (arith, high_small, w.small, e)))) in
+        let p = pair_done i s at count gets gives payments w long-gets more goes count' gets' gives' payments' pays in
+        let as_at : more ≡ paired cs next.low next.high (adds owes) rest =
+        ap (λ z. paired cs z (high_of owes) (adds owes) rest) (sym low_is) ∙ ap (λ z. paired cs next.low z (adds owes) rest) (sym high_is) in
         record {
           walked = on;
           sums = adds owes;
           done = w.done ++ pair_payments cs at.low at.high w.sums;
           comes_to = λ k in-cs. step k in-cs ∙ ap (int_wrap w64) (omega (arith, ints, p.no_gets k (omega arith), p.no_gives k (omega arith)));
           paid = p.paid_more;
+          small = omega (arith, high_is, high_small);
           total = p.total_is ∙ ap (λ z. (w.done ++ pair_payments cs at.low at.high w.sums) ++ map written z) as_at;
           whole = subst (AllByRecursion Whole) as_at (all_right Whole (pair_lines cs at.low at.high w.sums) more (subst (AllByRecursion Whole) goes w.whole));
         }
 
-    pub walking_more : Walking n cs see hs s₀ ws was (i + 1) s'' at' gets'' gives'' payments'
-    walking_more = ⊎_elim same_pair (λ h. other_pair h.0 h.1) next.does
-
   -- behind the last word
-  pub walking_end : (i : ℕ) (s : List ℕ) (at : Pair) (gets gives : List ℤ) (payments : List ℕ) (count' : ℕ) (gets' gives' : List ℤ) (payments' : List ℕ) → i ≡ length ws → length gets ≡ cs →
-      PaysPair at.low at.high at.count gets gives payments count' gets' gives' payments' → Walking n cs see hs s₀ ws was i s at gets gives payments → AllWalked n cs see hs s₀ ws was count' s payments'
+  pub walking_end : (i : ℕ) (s : List ℕ) (at : Pair) (count : ℕ) (gets gives : List ℤ) (payments : List ℕ) (count' : ℕ) (gets' gives' : List ℤ) (payments' : List ℕ) → i ≡ length ws → length gets ≡ cs →
+      PaysPair at.low at.high count gets gives payments count' gets' gives' payments' → Walking n cs see hs s₀ ws was i s at count gets gives payments → AllWalked n cs see hs s₀ ws was count' s payments'
   unfolding paired owing
-  walking_end i s at gets gives payments count' gets' gives' payments' all long-gets pays w =
+  walking_end i s at count gets gives payments count' gets' gives' payments' all long-gets pays w =
       let none : paired cs at.low at.high w.sums (owing see hs (drop i ws)) ≡ pair_lines cs at.low at.high w.sums ++ [] =
       ap (λ z. paired cs at.low at.high w.sums (owing see hs z)) (drop_all i ws (omega arith)) ∙ sym (append-nil (pair_lines cs at.low at.high w.sums)) in
-      let p = pair_done i s at gets gives payments w long-gets [] none count' gets' gives' payments' pays in
+      let p = pair_done i s at count gets gives payments w long-gets [] none count' gets' gives' payments' pays in
       record {
         walked = subst (λ z. Walked n see hs s₀ ws z s) all w.walked;
         paid = subst (λ z. Written was z count' payments') (sym (p.total_is ∙ append-nil (w.done ++ pair_payments cs at.low at.high w.sums))) p.paid_more;
       }
-
--- nothing has come together yet
-pub zeros_long : (m k : ℕ) → k ≤ m → length (take (k - 0) (replicate m (pos 0))) ≡ k
-zeros_long m k le = simp (length-take, length-replicate) (omega arith)
-
-pub zeros_none : (m k : ℕ) → (j : ℕ) → j < length (take (k - 0) (replicate m (pos 0))) → get_or (take (k - 0) (replicate m (pos 0))) j (pos 0) ≡ pos 0
-zeros_none m k j lt =
-    let below : j < min (k - 0) m = simp (length-take, length-replicate) at lt in
-    get_or-take (k - 0) (replicate m (pos 0)) j (pos 0) (omega arith) ∙ get_or-replicate m j (pos 0) (pos 0) (omega arith)

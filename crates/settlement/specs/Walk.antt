@@ -1,15 +1,14 @@
 -- The walk over the deals of a day, by words in order: the two houses of a deal, the lower first, and then its number. Assumes nothing: these are definitions.
-use Rattle.std.specs.Prelude.{◌≡◌, ℕ, ◌+◌, ◌*◌, ◌/◌, ◌%◌, ◌<◌, ◌≤◌, ◌≢◌, ◌⊎◌, List, map, length, take, ℤ, pos, sum_by, FitsSigned, ◌==◌, slice_index}
+use Rattle.std.specs.Prelude.{◌≡◌, ℕ, ◌*◌, ◌/◌, ◌%◌, ◌<◌, ◌≤◌, ◌≢◌, List, map, length, take, pos, sum_by, FitsSigned, ◌==◌, slice_index}
 use Rattle.std.specs.Int.{w64}
 use Rattle.std.specs.List.{AllByRecursion}
 use Rattle.deals.specs.Contract.{pick}
 use Rattle.deals.specs.Residual.{Today}
 use Rattle.deals.specs.House.{Held, Owes, held_step, owes_step}
 use Rattle.deals.specs.Payments.{pair_of, paired, grouped}
-use Rattle.settlement.specs.declared.walk.Pair.{Pair}
 use Rattle.settlement.specs.Directory.{entry_of, part_of}
 use Rattle.settlement.specs.Keeping.{Keeps, RoomyAfter}
-use Rattle.settlement.specs.Paying.{Written, PaysPair}
+use Rattle.settlement.specs.Paying.{Written}
 
 abbrev pub pair_in : ℕ → ℕ
 pair_in w = w / 65536
@@ -46,12 +45,6 @@ pub record Walked (n : ℕ) (see : ℕ → Today) (hs : ℕ → Held) (s₀ ws :
   pub done : (c : ℕ) → c < n → 0 < times c (take i ws) → Keeps s c (held_step (see c) (hs c))
   pub parts : (c : ℕ) → c < n → times c (take i ws) ≡ 0 → part_of s c ≡ part_of s₀ c
   pub entries : (c : ℕ) → c < n → times c (take i ws) ≡ 0 → entry_of s c ≡ entry_of s₀ c
-
--- the pair of the next word: if it is another, what the one before has come to is paid
-pub record NextPair (at : Pair) (w : ℕ) (gets gives : List ℤ) (s : List ℕ) (at' : Pair) (gets' gives' : List ℤ) (s' : List ℕ) : Type 0 where
-  pub low_is : at'.low ≡ pair_in w / 65536 % 65536
-  pub high_is : at'.high ≡ pair_in w % 65536
-  pub does : ((at' ≡ at) × (gets' ≡ gets) × (gives' ≡ gives) × (s' ≡ s)) ⊎ ((pair_in w % 4294967296 ≢ at.low * 65536 + at.high) × PaysPair at.low at.high at.count gets gives s at'.count gets' gives' s')
 
 pub record AllWalked (n cs : ℕ) (see : ℕ → Today) (hs : ℕ → Held) (s ws was : List ℕ) (r : ℕ) (s' payments : List ℕ) : Type 0 where
   pub walked : Walked n see hs s ws (length ws) s'

@@ -1,8 +1,10 @@
 // Lent bytes, 16,384 for each deal: its part, 12,288 of them; the rest is, at every deal whose number is a multiple of 256, the directory of that deal and the 255 behind it.
+// Each function takes the bytes with a deal's number, and asks that the deal lies in them: a struct that holds the bytes would have to promise besides that they stay the same ones.
 ghost use Rattle.std.specs.Prelude.{◌≡◌, ◌+◌, ◌*◌, ◌≤◌, length};
 ghost use Rattle.settlement.specs.Directory.{entry_place, entry_in, entry_of, EntryPut};
 
-use residual::deal::Summary;
+use octets::Word;
+use residual::deal::{PART, Summary};
 
 pub const SLOT: usize = 16384;
 
@@ -20,35 +22,38 @@ fn entry_place(c: usize) -> usize
     requires { 16384 * c ≤ 18446744073709535232 }
     ensures { result ≡ entry_place c }
 {
-    256 * SLOT * (c / 256) + 12288 + ENTRY * (c % 256)
+    256 * SLOT * (c / 256) + PART + ENTRY * (c % 256)
 }
 
+#[tactic(auto, unfolding(crate::specs::Directory::entry_in))]
 fn load_entry(b: &[u8]) -> Entry
     requires { length b.now ≡ 16 }
     ensures { result ≡ entry_in b.now }
 {
     Entry {
-        holder: octets::read_u16(b, 0),
-        other: octets::read_u16(b, 2),
+        holder: u16::read(b, 0),
+        other: u16::read(b, 2),
         kept: Summary {
-            wake: octets::read_u32(b, 4),
-            rows: octets::read_u16(b, 8),
-            used: octets::read_u16(b, 10),
+            wake: u32::read(b, 4),
+            rows: u16::read(b, 8),
+            used: u16::read(b, 10),
         },
     }
 }
 
+#[tactic(auto, using(crate::proofs::Places::entry_saved))]
 fn save_entry(b: &mut [u8], e: Entry)
     requires { length b.old ≡ 16 }
     ensures { entry_in b.new ≡ e }
 {
-    octets::write_u16(b, 0, e.holder);
-    octets::write_u16(b, 2, e.other);
-    octets::write_u32(b, 4, e.kept.wake);
-    octets::write_u16(b, 8, e.kept.rows);
-    octets::write_u16(b, 10, e.kept.used);
+    e.holder.write(b, 0);
+    e.other.write(b, 2);
+    e.kept.wake.write(b, 4);
+    e.kept.rows.write(b, 8);
+    e.kept.used.write(b, 10);
 }
 
+#[tactic(auto, unfolding(crate::specs::Directory::entry_of))]
 pub(crate) fn read_entry(deals: &[u8], c: usize) -> Entry
     requires { 16384 * c + 16384 ≤ length deals.now }
     ensures { result ≡ entry_of deals.now c }

@@ -11,10 +11,10 @@ mod order;
 mod payments;
 mod walk;
 
-use order::order_waking;
+use order::collect_waking;
 use walk::walk;
 
-// The morning of day t for the first n deals: each that wakes has its morning, and what each pair comes to is paid; how many payments there are.
+// The morning of day t for the first n deals: each that wakes has its morning, and what each pair comes to is paid; how many payments there are. All memory is lent, so that how many deals and currencies there are stands beside it.
 pub fn settle(
     deals: &mut [u8],
     n: usize,
@@ -29,6 +29,8 @@ pub fn settle(
     requires currencies { currencies ≤ 64 }
     ensures { Settles t n currencies deals.old payments.old result deals.new payments.new }
 {
-    let count = order_waking(deals, n, t, work);
-    walk(deals, t, &work[0..count], currencies, payments)
+    let count = collect_waking(deals, n, t, work);
+    let words = &mut work[..count];
+    words.sort_unstable();
+    walk(deals, t, words, currencies, payments)
 }

@@ -13,15 +13,7 @@ fn wake_deal(deals: &mut [u8], c: usize, entry: Entry, t: u32, due: &mut [i64])
     ensures { WokenDeal t c deals.old due.old deals.new due.new }
 {
     let kept = wake(&mut deals[SLOT * c..SLOT * c + PART], entry.kept, t, due);
-    write_entry(
-        deals,
-        c,
-        Entry {
-            holder: entry.holder,
-            other: entry.other,
-            kept,
-        },
-    );
+    write_entry(deals, c, Entry { kept, ..entry });
 }
 
 // What flows to the higher house of the two is added to gets, what flows to the lower one to gives.

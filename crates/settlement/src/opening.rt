@@ -1,26 +1,26 @@
 // The new deals of a morning come into the lent bytes, each under the next number.
-ghost use Rattle.std.specs.Prelude.{◌+◌, ◌*◌, ◌<◌, ◌≤◌, length};
+ghost use Rattle.std.specs.Prelude.{◌+◌, ◌*◌, ◌≤◌, length};
 ghost use Rattle.settlement.specs.Opening.{OpenedDeal, OpenedNext, OpensAll};
 
 use crate::directory::{Entry, SLOT, write_entry};
 use mornings::Start;
-use mornings::places::deal_at;
+use mornings::places::{DealAt, whole_deal_at};
 use residual::deal::{PART, open};
 use texts::nodes::{Node, Tree};
 use texts::reading::read_part;
 
 // One deal, by its contract's marks.
-fn open_deal(deals: &mut [u8], c: usize, holder: u16, other: u16, from: u32, marks: &[Node])
+fn open_deal(deals: &mut [u8], c: usize, d: DealAt, marks: &[Node])
     requires { 16384 * c + 16384 ≤ length deals.old }
-    ensures { OpenedDeal c holder other from marks.now deals.old deals.new }
+    ensures { OpenedDeal c d.holder d.other d.day marks.now deals.old deals.new }
 {
-    let kept = open(&mut deals[SLOT * c..SLOT * c + PART], marks, from);
+    let kept = open(&mut deals[SLOT * c..SLOT * c + PART], marks, d.day);
     write_entry(
         deals,
         c,
         Entry {
-            holder,
-            other,
+            holder: d.holder,
+            other: d.other,
             kept,
         },
     );
@@ -38,13 +38,9 @@ fn open_next(
     requires { 16384 * c + 16384 ≤ length deals.old }
     ensures { OpenedNext start bytes.now c at deals.old result deals.new }
 {
-    if bytes.len() < 10 || at > bytes.len() - 10 {
+    let Some(d) = whole_deal_at(bytes, at) else {
         return at;
-    }
-    let d = deal_at(bytes, at);
-    if d.text_end > bytes.len() {
-        return at;
-    }
+    };
     let Ok(()) = read_part(
         bytes,
         d.text_at,
@@ -55,11 +51,11 @@ fn open_next(
     ) else {
         return at;
     };
-    open_deal(deals, c, d.holder, d.other, d.day, tree.row());
+    open_deal(deals, c, d, tree.row());
     d.text_end
 }
 
-// All deals of a morning, behind those that there are.
+// All deals of a morning, behind those that there are: k counts them, and first + k is a deal's number.
 pub fn open_deals(deals: &mut [u8], first: usize, bytes: &[u8], n: u16, start: Start)
     requires { 16384 * (first + n) ≤ length deals.old }
     ensures { OpensAll start bytes.now n first deals.old deals.new }

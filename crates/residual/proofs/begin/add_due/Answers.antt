@@ -1,7 +1,6 @@
 use Rattle.std.proofs.Common.{length, get_or, set, pos, ap, arith, w64, SFits, rules}
 use Rattle.std.proofs.lemmas.Int.{wrapping_add_is}
 use Rattle.std.proofs.lemmas.Bool.{lt-ltb}
-use Rattle.std.proofs.lemmas.Bool.Decides.{nat_tests}
 use Rattle.residual.specs.Steps.{with_due}
 use Rattle.residual.proofs.begin.add_due.Goals as goal
 
@@ -11,7 +10,3 @@ returns-then-k-due c =
     let held : SFits w64 (get_or c.args.due.now c.args.k (pos 0)) = search rules in
     let sum = wrapping_add_is w64 (get_or c.args.due.now c.args.k (pos 0)) c.args.amount held c.ranges.amount in
     simp (lt-ltb c.args.k (length c.args.due.now) (omega arith)) (ap (set c.args.due.now c.args.k) sum)
-
-pub returns-else-k-due : goal.returns-else-k-due
-unfolding with_due
-returns-else-k-due c = grind (arith, nat_tests)

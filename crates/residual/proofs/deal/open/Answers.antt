@@ -1,13 +1,20 @@
-use Rattle.std.proofs.Common.{length, ap, arith}
+use Rattle.std.proofs.Common.{◌≤◌, [], ◌∷◌, length, drop, ap, arith}
+use Rattle.std.proofs.lemmas.List.{length-take-le, length-append, length-drop}
 use Rattle.deals.specs.Promise.{ContractFits}
-use Rattle.residual.proofs.Laid.{nodes_many}
+use Rattle.deals.specs.Residual.{starts}
+use Rattle.residual.proofs.Behind.{holds_more}
+use Rattle.texts.proofs.Standing.{nodes_length}
 use Rattle.residual.proofs.Opening.{opened}
 use Rattle.residual.proofs.deal.open.Goals as goal
 
-pub returns-then-part-lt-PART : goal.returns-then-part-lt-PART
+pub returns-then-marks-gt-DEEP : goal.returns-then-marks-gt-DEEP
 unfolding ContractFits
-returns-then-part-lt-PART c x rs cs is fits few t early long = absurd (omega (arith, ap length is, nodes_many x, fits.1))
+returns-then-marks-gt-DEEP c x rs cs is fits few t early long = absurd (omega (arith, ap length is, nodes_length x, fits.1))
 
 pub returns : goal.returns
 returns c x rs cs is fits few t early long =
-    rw (c.write_row.ensures, c.lay-end.ensures.bytes, c.lay-end.ensures.next) (opened c.args.part.now c.args.marks.now c.args.from x rs cs is fits few t early long)
+    let written = c.lay-end.ensures.laid in
+    let there : 12288 ≤ length c.in-Some.part.now = omega (arith, c.in-Some.ensures.cases.enough, ap length c.in-Some.ensures.cases.same, length-take-le 12288 c.args.part.now long) in
+    holds_more c.write_row.new.part (drop 12288 c.args.part.now) (record { wake = c.args.from; rows = 1; used = 0 }) [] (record { entry = 0; way = []; waits = starts c.args.from x } ∷ [])
+    (omega (arith, length-append c.write_row.new.part (drop 12288 c.args.part.now), length-drop 12288 c.args.part.now))
+    (rw (c.write_row.ensures, ap (λ z. z.bytes) written, ap (λ z. z.next) written) (opened c.in-Some.part.now c.args.marks.now c.args.from x rs cs is fits few t early there))

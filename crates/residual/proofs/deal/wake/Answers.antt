@@ -1,18 +1,28 @@
-use Rattle.std.proofs.Common.{◌≡◌, ◌-◌, length, take, ◌∙◌, arith}
-use Rattle.std.proofs.lemmas.List.{length-take-le, get_or-take}
-use Rattle.residual.specs.Steps.{no_row}
-use Rattle.residual.proofs.Waking.{deal_woken}
+use Rattle.std.proofs.Common.{◌≡◌, ◌≤◌, length, take, drop, sym, ap, ◌∙◌, subst, arith}
+use Rattle.std.proofs.lemmas.List.{length-take-le, length-append, length-drop}
+use Rattle.residual.specs.Layout.{first_rows}
+use Rattle.residual.specs.Steps.{state, woken}
+use Rattle.deals.specs.Shared.{shared_steps}
+use Rattle.residual.specs.Deal.{Holds}
+use Rattle.residual.proofs.Behind.{holds_front, holds_more}
+use Rattle.residual.proofs.Waking.{fresh, deal_woken}
 use Rattle.residual.proofs.deal.wake.Goals as goal
-
-pub returns-then-part-lt-PART : goal.returns-then-part-lt-PART
-returns-then-part-lt-PART c n es slots num long h few_rows few_entries = absurd (omega (arith, h.rows_are, h.few))
 
 pub returns : goal.returns
 returns c n es slots num long h few_rows few_entries =
-    let count = c.args.kept.rows in
+    let kept = c.args.kept in
+    let part = c.in-Some.part.now in
     let rows = c.read_rows-rows.result in
-    let rs = take (count - 0) rows in
-    let many : length rs ≡ length slots = length-take-le (count - 0) rows (omega (arith, c.read_rows-rows.ensures.long, h.rows_are, h.few)) ∙ omega (arith, h.rows_are) in
-    deal_woken c.args.part.now c.args.kept n es slots rs c.args.due.now long h many
-    (λ m lt. get_or-take (count - 0) rows m no_row (omega (arith, h.rows_are)) ∙ c.read_rows-rows.ensures.rows m (omega (arith, h.rows_are))) few_rows few_entries c.wake_rows.new.part c.wake_rows.new.left c.wake_rows.new.due
-    (rw num c.wake_rows.ensures.bytes) (rw num c.wake_rows.ensures.left) (rw num c.wake_rows.ensures.due)
+    let st = fresh part kept c.args.due.now in
+    let there : 12288 ≤ length part = omega (arith, c.in-Some.ensures.cases.enough, ap length c.in-Some.ensures.cases.same, length-take-le 12288 c.args.part.now long) in
+    let read : take kept.rows rows ≡ first_rows part (length slots) = c.read_rows-rows.ensures ∙ ap (first_rows part) h.rows_are in
+    let done =
+    deal_woken part kept n es slots c.args.due.now there (subst (λ z. Holds z kept es slots) (sym c.in-Some.ensures.cases.same) (holds_front c.args.part.now kept es slots long h)) few_rows few_entries
+    (state c.wake_rows.new.part c.wake_rows.new.left c.wake_rows.new.due)
+    (c.wake_rows.ensures ∙ ap (λ rs. woken c.args.t rs st) read ∙ ap (λ t. woken t (first_rows part (length slots)) st) (sym num)) in
+    record {
+      holds =
+          holds_more c.wake_rows.new.part (drop 12288 c.args.part.now) c.wake_rows.new.left (shared_steps n slots es).entries (shared_steps n slots es).slots
+          (omega (arith, length-append c.wake_rows.new.part (drop 12288 c.args.part.now), length-drop 12288 c.args.part.now)) done.holds;
+      paid = done.paid;
+    }

@@ -1,8 +1,6 @@
-use Rattle.std.proofs.Common.{◌≡◌, ◌-◌, length}
-use Rattle.residual.specs.Steps.{woken}
+use Rattle.std.proofs.Common.{◌≡◌, drop}
+use Rattle.residual.specs.Steps.{state, woken}
 use Rattle.residual.proofs.deal.wake_rows.Given as goal
 
 abbrev pub invariant-rows : goal.invariant-rows
-invariant-rows l =
-    woken (length l.rows - l.k) l.t l.rows l.k (record { bytes = l.part; left = l.left; due = l.due })
-    ≡ woken (length l.rows) l.t l.rows 0 (record { bytes = l.initial.part; left = l.initial.left; due = l.initial.due })
+invariant-rows l = woken l.t (drop l.row-index l.rows) (state l.part l.left l.due) ≡ woken l.t l.rows (state l.initial.part l.initial.left l.initial.due)

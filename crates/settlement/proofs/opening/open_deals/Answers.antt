@@ -1,9 +1,6 @@
 use Rattle.std.proofs.Common.{arith}
-use Rattle.settlement.proofs.Opened.{opening_start, opening_more, opening_end}
+use Rattle.settlement.proofs.Opened.{opening_more, opening_end}
 use Rattle.settlement.proofs.opening.open_deals.Goals as goal
-
-pub loop-k-init : goal.loop-k-init
-loop-k-init c day dd j hs coins row early many keeps = opening_start c.args.start day c.args.bytes.now c.args.n c.args.first dd j hs c.args.deals.now row keeps
 
 pub loop-k-preserved : goal.loop-k-preserved
 loop-k-preserved c day dd j hs coins row early many keeps =

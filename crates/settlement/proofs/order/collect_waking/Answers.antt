@@ -14,7 +14,7 @@ waking-preserved-then-e-t c =
     (omega arith, c.waking.invariant.1 ∙ sym (waking_no c.args.t c.args.deals.now c.waking.c later))
 
 pub waking-preserved : goal.waking-preserved
-unfolding word_at
+unfolding word_at entry_pair
 waking-preserved c =
     let wakes : (entry_of c.args.deals.now c.waking.c).kept.wake ≤ c.args.t = subst (λ e. e.kept.wake ≤ c.args.t) c.read_entry-e.ensures (omega arith) in
     let word = c.pair_of.result * 65536 + c.waking.c in (
