@@ -111,7 +111,7 @@ impl History {
         self.kept.extend_from_slice(bytes)?;
         let to = self.kept.len();
         self.days.push(DayAt { from, to, parts })?;
-        self.so_far = self.so_far.saturating_add(parts.deals as u32);
+        self.so_far = self.so_far.saturating_add(u32::from(parts.deals));
         // There is room for all that is paid, so the 0 of a slice too short is never taken.
         let count = pay_day(
             self.kept.as_slice(),

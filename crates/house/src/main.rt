@@ -25,7 +25,7 @@ fn mornings(rt: &HostRuntime, start: Start, names: Args) -> anyhow::Result<()> {
             Ok(ends) => {
                 eprintln!(rt; "day {day}: nothing is paid yet")?;
                 day = day.saturating_add(1);
-                so_far = so_far.saturating_add(ends.deals as u32);
+                so_far = so_far.saturating_add(u32::from(ends.deals));
             }
             Err(e) => println!(rt; "{e}")?,
         }

@@ -8,7 +8,7 @@ use octets::Word;
 use std::io;
 use texts::stages::Stage;
 
-// The worth of a hexadecimal digit, 0 for others. It stands in `plain_lines` too: a program can't use another, and a library of this alone is no plainer.
+// The worth of a hexadecimal digit, 0 for others. It and the loop over pairs of digits stand in `plain_lines` too: a program can't use another, and a library of these alone is no plainer.
 fn digit(b: u8) -> u8
     ensures { result < 16 }
 {

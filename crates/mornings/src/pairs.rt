@@ -15,7 +15,7 @@ pub struct Pair {
 }
 
 impl Pair {
-    // The pair with a number.
+    // The pair with a number: lent work is words in the order of their pairs, so its houses come out of the word by `/` and `%`.
     pub fn numbered(n: u64) -> Pair
         ensures { result ≡ record { low = n / 65536 % 65536; high = n % 65536 } }
     {
@@ -31,7 +31,7 @@ pub fn pair_of(holder: u16, other: u16) -> u64
     ensures is { result ≡ pair (smaller holder other) (larger holder other) }
     ensures small { result < 4294967296 }
 {
-    holder.min(other) as u64 * 65536 + holder.max(other) as u64
+    u64::from(holder.min(other)) * 65536 + u64::from(holder.max(other))
 }
 
 // What the lower house of two has to pay the other in a currency: below 0 it is the other that pays, and for 0 there is no payment.
@@ -71,7 +71,7 @@ fn append_payment(payments: &mut [u8], count: usize, payment: Option<Payment>) -
     count + 1
 }
 
-// Pays what the lower house of a pair has come to owe the other, currency by currency, and begins again from 0; how many payments there are then.
+// Pays what the lower house of a pair has come to owe the other, currency by currency, and begins again from 0; how many payments there are then. There are at most 64 currencies, which a lent slice can't say itself.
 pub fn pay_pair(pair: Pair, sums: &mut [i64], payments: &mut [u8], count: usize) -> usize
     requires { length sums.old ≤ 64 }
     ensures { PairPaid pair.low pair.high count sums.old payments.old result sums.new payments.new }

@@ -43,7 +43,7 @@ fn choice(bytes: &[u8], at: usize) -> Result<usize, Refusal>
 {
     let (_deal, length_at) = long_from(bytes, at, 0)?;
     let (n, steps_at) = byte_up_to(bytes, length_at, 64)?;
-    row(steps_at, n as u16, |to| step(bytes, to))
+    row(steps_at, u16::from(n), |to| step(bytes, to))
 }
 
 // So many choices in a row.

@@ -20,6 +20,7 @@ fn mornings(rt: &HostRuntime, start: Start, names: Args) -> anyhow::Result<()> {
     let mut history = History::new(rt.alloc(), start);
     for name in names {
         let bytes = bytes_of(rt, name.as_str())?;
+        // The same match stands in `plain_lines`: a program can't use another, and of what is printed a library could promise nothing.
         match history.take(bytes.as_slice()) {
             Ok(()) => print!(rt; "{history}")?,
             Err(NotTaken::Refused(refusal)) => println!(rt; "{refusal}")?,

@@ -7,7 +7,7 @@ use anyhow::anyhow;
 use history::{History, NotTaken};
 use mornings::{Start, judge_start};
 
-// The worth of a hexadecimal digit, 0 for others. It stands in `judge_lines` too: a program can't use another, and a library of this alone is no plainer.
+// The worth of a hexadecimal digit, 0 for others. It and the loop over pairs of digits stand in `judge_lines` too: a program can't use another, and a library of these alone is no plainer.
 fn digit(b: u8) -> u8
     ensures { result < 16 }
 {
@@ -18,7 +18,7 @@ fn digit(b: u8) -> u8
     }
 }
 
-// A morning: what is paid, or its refusal, as `plain` prints them.
+// A morning: what is paid, or its refusal, as `plain` prints them, by the same match: of what is printed a library could promise nothing.
 fn morning(rt: &HostRuntime, history: &mut History, bytes: &[u8]) -> anyhow::Result<()> {
     match history.take(bytes) {
         Ok(()) => print!(rt; "{history}")?,

@@ -27,7 +27,7 @@ impl Way {
         ensures { result ≡ stepped self step }
     {
         Way {
-            bits: self.bits.wrapping_mul(2).wrapping_add(step as u64),
+            bits: self.bits.wrapping_mul(2).wrapping_add(u64::from(step)),
             len: self.len.saturating_add(1),
         }
     }
@@ -58,7 +58,7 @@ fn choice_in(bytes: &[u8], at: usize) -> Option<ChoiceIn>
     })
 }
 
-// Whether a choice is for a part of deal c, by the way to it: two of its fields, beside the place of the next choice.
+// Whether a choice is for a part of deal c, by the way to it: two of its fields, beside the place of the next choice. Here and below they come apart, as callers have them: the deal's number stands in `Deal`, the way in the part.
 fn is_for(choice: ChoiceIn, c: u32, way: Way) -> bool
     ensures { result ≡ is_for choice c way }
 {

@@ -6,6 +6,7 @@ ghost use Rattle.std.specs.List.Sorted.{IsPermutation, IsNonDecreasing};
 use crate::listing::DealIn;
 use mornings::pairs::pair_of;
 
+// One sum, as in `settlement`: a function for both would be public, with a longer promise than body.
 fn key_of(deal: DealIn, c: usize) -> u64
     requires { c < 65536 }
     ensures { result ≡ key_of deal c }

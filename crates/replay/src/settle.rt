@@ -66,7 +66,7 @@ fn pay_keys(
     pay_number(pair, sums, payments, count)
 }
 
-// The same, from nothing come together yet.
+// The same, from nothing come together yet. The sums are 64, of which as many are lent as there are currencies.
 fn pay_sorted(
     book: Book,
     deals: &[DealIn],

@@ -9,7 +9,7 @@ use residual::deal::{PART, open};
 use texts::nodes::{Node, Tree};
 use texts::reading::read_part;
 
-// One deal, by its contract's marks.
+// One deal, by its contract's marks. The fields of the entry come from two structs.
 fn open_deal(deals: &mut [u8], c: usize, d: DealAt, marks: &[Node])
     requires { 16384 * c + 16384 ≤ length deals.old }
     ensures { OpenedDeal c d.holder d.other d.day marks.now deals.old deals.new }

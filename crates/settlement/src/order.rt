@@ -5,7 +5,7 @@ ghost use Rattle.settlement.specs.Order.{words_waking};
 use crate::directory::read_entry;
 use mornings::pairs::pair_of;
 
-// The words of the deals that wake up to day t, at the front of work; how many there are. They are counted as they are written: there is no heap, and work is lent.
+// The words of the deals that wake up to day t, at the front of work; how many there are. A word is one sum, as the keys of `replay` are: a function for both would be public, with a longer promise than body. They are counted as they are written: there is no heap, and work is lent.
 pub(crate) fn collect_waking(deals: &[u8], n: usize, t: u32, work: &mut [u64]) -> usize
     requires deals { 16384 * n ≤ length deals.now }
     requires few { n ≤ 65536 }

@@ -19,7 +19,7 @@ pub(crate) fn walk(
     requires { currencies ≤ 64 }
     ensures { Walks t currencies words.now deals.old payments.old result deals.new payments.new }
 {
-    // Two slices and not pairs of sums: what is due of a deal is added up in one of them.
+    // At most 64 of each, of which as many are lent as there are currencies. Two slices and not pairs of sums: what is due of a deal is added up in one of them.
     let mut gets = [0i64; CURRENCIES];
     let mut gives = [0i64; CURRENCIES];
     let gets = &mut gets[..currencies];

@@ -1,5 +1,6 @@
 // Contracts: each is read by how it begins, and goes as far as it can.
 // A reader is handed a place and hands back the one behind: a cursor would carry the same two, and each clause would have to add that its bytes stay.
+// What each promises says how the text, the place and what was read before and after belong together: no value has that as a fact, and two words of specs say it, so they stand at each.
 // Its refusal is the place alone, since there is one reason: no contract's text goes on so.
 ghost use Rattle.std.specs.Prelude.{◌≡◌, ℕ, ◌+◌, ◌<◌, ◌≤◌, length, MatchResult};
 ghost use Rattle.texts.specs.Text.{Text};

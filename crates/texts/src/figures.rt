@@ -1,4 +1,5 @@
 // Figures. Each is read with the byte behind it, since a space behind `rate k` may begin its n or end it.
+// What each promises stands at each, as with contracts.
 ghost use Rattle.std.specs.Prelude.{◌≡◌, ℕ, ◌≤◌, true, false, length, MatchBool, MatchResult};
 ghost use Rattle.texts.specs.Text.{digit};
 ghost use Rattle.texts.specs.Reading.{byte_at, Any, NoDigit, Took, Stops, capped};

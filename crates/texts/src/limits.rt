@@ -54,6 +54,7 @@ fn small(size: u64, next: usize) -> Option<(u64, usize)>
 }
 
 // How large the figure can be whose nodes begin at a place, and where those behind it begin; nothing if a limit is passed. At most so deep.
+// It begins as `write_figure` does, and `measure_at` as `write_at`, since they walk over the same nodes: what is done at each, and promised, differs.
 fn largest(nodes: &[Node], at: usize, falling: usize) -> Option<(u64, usize)>
     ensures is { result ≡ largest_at nodes.now falling at }
     ensures low { IfSome result (LargestLow nodes.now at) }
@@ -176,7 +177,7 @@ fn moderate(m: Measure) -> Option<Measure>
     (m.moves < 1099511627776).then_some(m)
 }
 
-// The measure of the contract whose nodes begin at a place; nothing if a limit is passed. At most so deep.
+// The measure of the contract whose nodes begin at a place; nothing if a limit is passed. At most so deep. As in `write_figure` the row is a slice with a bound.
 fn measure_at(nodes: &[Node], at: usize, falling: usize) -> Option<Measure>
     requires { length nodes.now ≤ 256 }
     ensures is { result ≡ measured_at nodes.now falling at }

@@ -32,7 +32,7 @@ fn read_whole(text: &[u8], read: &mut Reading) -> Result<(), usize>
     Ok(())
 }
 
-// Reads a text, with so many rates and currencies.
+// Reads a text, with so many rates and currencies. They come as two numbers: what holds both is `Ranges`, which is made of them here, and a struct for callers would be taken apart in each clause.
 fn read_text(text: &[u8], rates: u16, currencies: u8) -> Result<Tree, TextRefusal>
     ensures { MatchResult result (λ t. (x : Contract) × TextTaken rates currencies text.now x × Holds t (nodes_of x)) (λ e. TextRefused rates currencies text.now (refusal_number e) (refusal_place e) × (refusal_place e ≤ length text.now)) }
 {
