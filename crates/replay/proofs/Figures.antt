@@ -11,10 +11,10 @@ use Rattle.texts.specs.Nodes.{figure_nodes}
 use Rattle.texts.specs.declared.nodes.Node.{Node}
 use Rattle.replay.specs.Days.{rate_before}
 use Rattle.replay.specs.Meaning.{RatesAre}
-use Rattle.replay.specs.Parts.{behind}
+use Rattle.replay.specs.Parts.{Stands, behind}
 use Rattle.replay.specs.Figure.{combined, figure_of, figure_at}
 use Rattle.replay.proofs.Steps.{figure_step}
-use Rattle.replay.proofs.Passing.{Stands, stands_here, stands_next, stands_left, stands_right, behind_is, passes_figure}
+use Rattle.replay.proofs.Passing.{stands_here, stands_next, stands_left, stands_right, behind_is, passes_figure}
 
 pub capped_same : (n : ℕ) → n < 18446744073709551615 → capped n ≡ n
 capped_same n h = omega arith

@@ -12,7 +12,7 @@ use Rattle.texts.specs.declared.nodes.Node.{Node}
 use Rattle.replay.specs.declared.dues.Due.{Due}
 use Rattle.replay.specs.declared.dues.Above.TheVariants.{Turn, Scale}
 use Rattle.replay.specs.declared.flow.Part.{Part}
-use Rattle.replay.specs.Parts.{behind}
+use Rattle.replay.specs.Parts.{Stands, behind}
 use Rattle.replay.specs.Figure.{figure_at}
 use Rattle.replay.specs.Dues.{lift_due}
 use Rattle.replay.specs.Choices.{way_of, stepped}
@@ -20,7 +20,7 @@ use Rattle.replay.specs.First.{true_on, taken_on}
 use Rattle.replay.specs.Flow.{Seen, inside, goes_on, next_of, flow_of, flow_at}
 use Rattle.replay.specs.Meaning.{RatesAre, Bits, ChosenAre, dues_on}
 use Rattle.replay.proofs.Steps.{flow_step}
-use Rattle.replay.proofs.Passing.{Stands, stands_here, stands_next, stands_left, stands_right, behind_is, passes_figure, passes_contract}
+use Rattle.replay.proofs.Passing.{stands_here, stands_next, stands_left, stands_right, behind_is, passes_figure, passes_contract}
 use Rattle.replay.proofs.Figures.{figure_means, capped_same, amount_same}
 use Rattle.replay.proofs.Ways.{way_step}
 use Rattle.replay.proofs.Firsts.{first_same}

@@ -3,13 +3,8 @@ use Rattle.std.proofs.Common.{◌≡◌, ℕ, suc, ◌+◌, ◌-◌, ◌≤◌, 
 use Rattle.deals.specs.Contract.{Figure, fixed, rate, day, plus, minus, times, most, less, Contract, nothing, pays, turned, both, choice, either, scaled, on_day, when, by_day}
 use Rattle.texts.specs.Nodes.{figure_nodes, nodes_of}
 use Rattle.texts.specs.declared.nodes.Node.{Node}
-use Rattle.replay.specs.Parts.{within, passed, behind}
+use Rattle.replay.specs.Parts.{Stands, within, passed, behind}
 use Rattle.replay.proofs.Steps.{passed_none, passed_step}
-
--- from place i on stand these nodes
-unfoldable pub Stands : (ℕ → Node) → ℕ → List Node → Type 0
-Stands node i [] = Unit {0}
-Stands node i (n ∷ ns) = (node i ≡ n) × Stands node (i + 1) ns
 
 pub stands_here : (node : ℕ → Node) (i : ℕ) (n : Node) (ns : List Node) → Stands node i (n ∷ ns) → node i ≡ n
 unfolding Stands

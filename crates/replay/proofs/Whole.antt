@@ -19,9 +19,8 @@ use Rattle.replay.specs.Choices.{way_bits, way_of}
 use Rattle.replay.specs.Flow.{seen, flow_at}
 use Rattle.replay.specs.Meaning.{DaysAre, dues_on, due_of, as_due}
 use Rattle.mornings.specs.declared.Start.{Start}
-use Rattle.replay.specs.Parts.{node_in}
+use Rattle.replay.specs.Parts.{node_in, Stands}
 use Rattle.replay.specs.Adding.{today_flows, OwesIt}
-use Rattle.replay.proofs.Passing.{Stands}
 use Rattle.replay.proofs.Flows.{flow_means}
 
 parts_few : (x : Contract) → parts x ≤ marks x

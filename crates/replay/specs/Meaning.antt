@@ -1,13 +1,17 @@
--- When what is read from the kept bytes is what the days say, and of some flows those of one day. Assumes nothing: these are definitions.
-use Rattle.std.specs.Prelude.{◌≡◌, ℕ, ◌<◌, ◌≤◌, Bool, List, [], ◌∷◌, length, get_or, ℤ, pos, ◌==◌, slice_index_or}
+-- When what is read from the kept bytes is what the days say, what a figure is worth over them, and of some flows those of one day. Assumes nothing: these are definitions.
+use Rattle.std.specs.Prelude.{◌≡◌, ℕ, ◌+◌, ◌<◌, ◌≤◌, Bool, List, [], ◌∷◌, length, get_or, ℤ, pos, ◌==◌, slice_index_or}
 use Rattle.std.specs.List.{AllByRecursion}
-use Rattle.deals.specs.Contract.{Day, Flow, Path, pick, no_day, chosen}
+use Rattle.deals.specs.Contract.{Figure, Day, Flow, Path, pick, no_day, value, chosen}
 use Rattle.deals.specs.Residual.{Due as DealDue}
+use Rattle.deals.specs.Promise.{FigureFits}
 use Rattle.deals.specs.Short.{RatesFit}
+use Rattle.texts.specs.Nodes.{figure_nodes}
+use Rattle.texts.specs.declared.nodes.Node.{Node}
 use Rattle.replay.specs.declared.days.DayAt.{DayAt}
 use Rattle.replay.specs.declared.choices.Way.{Way}
 use Rattle.replay.specs.declared.dues.Due.{Due}
 use Rattle.replay.specs.Days.{rate_on}
+use Rattle.replay.specs.Parts.{Stands}
 use Rattle.replay.specs.Choices.{way_of, chosen_on}
 
 -- rates, as they are read, are those of the days
@@ -31,6 +35,11 @@ pub record DaysAre (rs : ℕ) (kept : List ℕ) (days : List DayAt) (ds : List D
   pub small : RatesFit ds
   pub rates : RatesAre rs (rate_on kept days) ds
   pub choices : (c : ℕ) → ChosenAre (chosen_on kept days c) ds c
+
+-- a number is the value on day t of each figure within the limits whose nodes stand from place i on, over the days that are kept
+abbrev pub Worth : List ℕ → List DayAt → (ℕ → Node) → ℕ → ℕ → ℤ → Type 0
+Worth kept days node t i v =
+    (rs : ℕ) (ds : List Day) (e : Figure) → DaysAre rs kept days ds → t < length ds → FigureFits rs e → Stands node i (figure_nodes e) → i + length (figure_nodes e) ≤ 256 → v ≡ value ds t e
 
 -- of some flows those of one day
 abbrev pub due_of : Flow → Due

@@ -1,11 +1,16 @@
--- Where a part of a contract ends in the row of its nodes. Assumes nothing: these are definitions.
-use Rattle.std.specs.Prelude.{ℕ, zero, suc, ◌+◌, ◌-◌, List, slice_index_or}
+-- Which nodes stand from a place on, and where a part of a contract ends in the row of its nodes. Assumes nothing: these are definitions.
+use Rattle.std.specs.Prelude.{◌≡◌, ℕ, zero, suc, ◌+◌, ◌-◌, List, [], ◌∷◌, slice_index_or}
 use Rattle.texts.specs.declared.nodes.Node.{Node}
 use Rattle.texts.specs.declared.nodes.Node.TheVariants.{Nothing, Pays, Turned, Both, Choice, If, Of, On, When, By, Fixed, Rate, Day, Plus, Minus, Times, Max, Less}
 
 -- the node at a place; past the end it is nothing
 abbrev pub node_in : List Node → ℕ → Node
 node_in ns i = slice_index_or ns i Nothing
+
+-- from place i on stand these nodes
+unfoldable pub Stands : (ℕ → Node) → ℕ → List Node → Type 0
+Stands node i [] = Unit {0}
+Stands node i (n ∷ ns) = (node i ≡ n) × Stands node (i + 1) ns
 
 -- how many parts stand right within a node
 abbrev pub within : Node → ℕ

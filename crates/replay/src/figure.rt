@@ -1,6 +1,7 @@
 // The value of a figure on a day.
 ghost use Rattle.replay.specs.Days.{rates_of};
 ghost use Rattle.replay.specs.Figure.{combined, figure_at};
+ghost use Rattle.replay.specs.Meaning.{Worth};
 ghost use Rattle.replay.specs.Parts.{node_in};
 ghost use Rattle.std.specs.Prelude.{◌≡◌};
 
@@ -24,8 +25,16 @@ fn combined(node: Node, a: i64, b: i64) -> i64
 }
 
 impl<'a> Deal<'a> {
-    // The value on day t of the figure at place i, at most n deep.
-    pub(crate) fn figure(self, t: usize, n: usize, i: usize) -> i64
+    // The value on day t of the figure at place i: what the meaning says, if what is kept is that of some days and the nodes from there on are those of a figure within the limits.
+    pub(crate) fn value(self, t: usize, i: usize) -> i64
+        ensures is { result ≡ figure_at (rates_of self.entry.days) (node_in self.entry.nodes.now) t 256 i }
+        ensures meant { Worth self.entry.days.kept.now self.entry.days.days.now (node_in self.entry.nodes.now) t i result }
+    {
+        self.figure(t, 256, i)
+    }
+
+    // The same by the nodes, at most n deep.
+    fn figure(self, t: usize, n: usize, i: usize) -> i64
         ensures { result ≡ figure_at (rates_of self.entry.days) (node_in self.entry.nodes.now) t n i }
     {
         if n == 0 || i >= 256 {

@@ -13,7 +13,7 @@ impl<'a> Deal<'a> {
     pub(crate) fn first_true(self, t: usize, i: usize) -> Option<usize>
         ensures { result ≡ first_known self.entry.days (true_on (rates_of self.entry.days) (node_in self.entry.nodes.now) i) t }
     {
-        (t..self.days.days.len()).find(|&u| self.figure(u, 256, i) != 0)
+        (t..self.days.days.len()).find(|&u| self.value(u, i) != 0)
     }
 
     // The first known day from day t on, and up to day d, on which a part is chosen, by the way to it.

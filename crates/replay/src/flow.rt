@@ -59,7 +59,7 @@ impl<'a> Deal<'a> {
             Node::If => {
                 self.days.days.get(t)?;
                 let x = behind(self.nodes, i);
-                if self.figure(t, 256, i) == 0 {
+                if self.value(t, i) == 0 {
                     Some(part.inside(behind(self.nodes, x), t, 1))
                 } else {
                     Some(part.inside(x, t, 0))
@@ -105,7 +105,7 @@ impl<'a> Deal<'a> {
             }
             Node::Of => {
                 if t < self.days.days.len() {
-                    let v = self.figure(t, 256, i + 1);
+                    let v = self.value(t, i + 1);
                     let x = behind(self.nodes, i + 1);
                     let from = out.count();
                     self.flow(u, n - 1, part.inside(x, t, 0), out);

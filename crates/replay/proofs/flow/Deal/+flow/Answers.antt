@@ -32,7 +32,7 @@ pub returns-in-Both : goal.returns-in-Both
 returns-in-Both t c = adds_as _ _ (arm_both (seen_by c.args.self) c.args.u c.args.n c.args.part c.node-node.result (omega arith) (omega arith) c.node-node.ensures c.inside-in-Both.result c.inside-in-Both-2.result c.behind.result c.in-Both.is c.behind.ensures c.inside-in-Both.ensures c.inside-in-Both-2.ensures) (adds_both _ _ c.flow-in-Both.ensures c.flow-in-Both-2.ensures)
 
 pub returns-then-t-self-2 : goal.returns-then-t-self-2
-returns-then-t-self-2 t c = adds_as _ _ (arm_of (seen_by c.args.self) c.args.u c.args.n c.args.part c.node-node.result (omega arith) (omega arith) c.node-node.ensures c.inside-then-t-self-2.result c.behind-x.result c.figure-v.result c.in-Of.is (omega arith) c.figure-v.ensures c.behind-x.ensures c.inside-then-t-self-2.ensures ∙ ap (λ z. map (lift_due (Scale z)) (flow_at (seen_by c.args.self) c.args.u (c.args.n - 1) c.inside-then-t-self-2.result)) (sym (to_z-of_z w64 c.figure-v.result (search rules)))) (adds_lifted _ c.count-from-then-t-self-2.result (Scale (to_z w64 (of_z w64 c.figure-v.result))) c.flow-then-t-self-2.ensures c.count-from-then-t-self-2.ensures c.lift_from-then-t-self-2.ensures)
+returns-then-t-self-2 t c = adds_as _ _ (arm_of (seen_by c.args.self) c.args.u c.args.n c.args.part c.node-node.result (omega arith) (omega arith) c.node-node.ensures c.inside-then-t-self-2.result c.behind-x.result c.value-v.result c.in-Of.is (omega arith) c.value-v.ensures.is c.behind-x.ensures c.inside-then-t-self-2.ensures ∙ ap (λ z. map (lift_due (Scale z)) (flow_at (seen_by c.args.self) c.args.u (c.args.n - 1) c.inside-then-t-self-2.result)) (sym (to_z-of_z w64 c.value-v.result (search rules)))) (adds_lifted _ c.count-from-then-t-self-2.result (Scale (to_z w64 (of_z w64 c.value-v.result))) c.flow-then-t-self-2.ensures c.count-from-then-t-self-2.ensures c.lift_from-then-t-self-2.ensures)
 
 pub returns-else-t-self-2 : goal.returns-else-t-self-2
 returns-else-t-self-2 t c = adds_as _ [] (arm_of_late (seen_by c.args.self) c.args.u c.args.n c.args.part c.node-node.result (omega arith) (omega arith) c.node-node.ensures c.in-Of.is (omega arith)) (adds_none c.args.out.now)

@@ -30,13 +30,13 @@ pub returns-else-chosen_on : goal.returns-else-chosen_on
 unfolding next_of
 returns-else-chosen_on c = grind (arith, nat_tests, c.in_ok-get-in-Choice.ensures.lookup)
 
-pub returns-then-figure-eq0 : goal.returns-then-figure-eq0
+pub returns-then-value-eq0 : goal.returns-then-value-eq0
 unfolding next_of
-returns-then-figure-eq0 c = grind (arith, nat_tests, c.in_ok-get-in-If.ensures.lookup, to_z-of_z, zero_yes, zero_no)
+returns-then-value-eq0 c = grind (arith, nat_tests, c.in_ok-get-in-If.ensures.lookup, to_z-of_z, zero_yes, zero_no)
 
-pub returns-else-figure-eq0 : goal.returns-else-figure-eq0
+pub returns-else-value-eq0 : goal.returns-else-value-eq0
 unfolding next_of
-returns-else-figure-eq0 c = grind (arith, nat_tests, c.in_ok-get-in-If.ensures.lookup, to_z-of_z, zero_yes, zero_no)
+returns-else-value-eq0 c = grind (arith, nat_tests, c.in_ok-get-in-If.ensures.lookup, to_z-of_z, zero_yes, zero_no)
 
 pub returns-in_ok-v-in-When : goal.returns-in_ok-v-in-When
 unfolding next_of
