@@ -16,15 +16,6 @@ use Rattle.replay.specs.Meaning.{as_due}
 wrapped_twice : (z : ℤ) → int_wrap w64 (int_wrap w64 z) ≡ int_wrap w64 z
 wrapped_twice z = int_wrap_fits w64 (int_wrap w64 z) (SFits-int_wrap w64 z)
 
--- a currency that there isn't
-pub due_nowhere : (d : Due) (sums : List ℤ) → length sums ≤ d.currency → DueAdded d sums sums
-due_nowhere d sums h k lt =
-    let other : d.currency ≢ k = λ e. omega arith in
-    ap (int_wrap w64) (sym (+ℤ_idr (get_or sums k (pos 0))) ∙ ap (λ z. get_or sums k (pos 0) +ℤ z) (sym (none k other)))
-  where
-    none : (k : ℕ) → d.currency ≢ k → pick (eqb d.currency k) d.amount (pos 0) ≡ pos 0
-    none k ne = rw (ne_eqb d.currency k ne)
-
 abbrev DueAt : Due → List ℤ → ℤ → ℕ → Type 0
 DueAt d sums v j = int_wrap w64 (get_or (set sums d.currency v) j (pos 0)) ≡ int_wrap w64 (get_or sums j (pos 0) +ℤ pick (eqb d.currency j) d.amount (pos 0))
 

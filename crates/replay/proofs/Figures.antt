@@ -27,17 +27,6 @@ amount_same (negsuc n) h = let same : min (suc n) 9223372036854775807 ≡ suc n 
 pub short_fits : (z : ℤ) → size z < 4611686018427387904 → SFits w64 z
 short_fits z h = omega (arith, fits_in, ints, size_is z)
 
-pub limit_below : (rs : ℕ) (e : Figure) → FigureFits rs e → limit e < 4294967296
-unfolding FigureFits limit
-limit_below rs (fixed a) f = f
-limit_below rs (rate k n) f = omega arith
-limit_below rs day f = omega arith
-limit_below rs (plus e g) f = f.2
-limit_below rs (minus e g) f = f.2
-limit_below rs (times e g) f = f.2
-limit_below rs (most e g) f = f.2
-limit_below rs (less e g) f = omega arith
-
 module _ (ds : List Day) (rs t : ℕ) (rates : ℕ → ℕ → ℤ) (are : RatesAre rs rates ds) (few : rs ≤ 256) (small : RatesSmall ds) (known : t < length ds) (early : length ds ≤ 65536) (node : ℕ → Node) where
   abbrev Means : Figure → Type 0
   Means e = (i n : ℕ) → Stands node i (figure_nodes e) → length (figure_nodes e) ≤ n → i + length (figure_nodes e) ≤ 256 → figure_at rates node t n i ≡ value ds t e

@@ -55,10 +55,6 @@ pub record Listing (s : List ℕ) (t left at : ℕ) (was : List DealIn) (from : 
   pub room : count ≤ length was
   pub front : take count deals ≡ take from was ++ done
 
-pub listing_start : (s : List ℕ) (t many : ℕ) (was : List DealIn) (from : ℕ) (xs : List DealIn) → DealsRun s many 2 t xs → from ≤ length was → Listing s t many 2 was from xs was from
-listing_start s t many was from xs h le =
-    record { done = []; rest = xs; all = refl; run = h; many = omega arith; room = le; front = sym (append-nil (take from was)) }
-
 pub same_some : {A : Type 0} (o : Option A) (d e : A) → o ≡ Some d → o ≡ Some e → d ≡ e
 same_some o d e p q = cc
 
@@ -125,10 +121,6 @@ pub record MorningsListing (kept : List ℕ) (days : List DayAt) (t : ℕ) (xs :
   pub many : count ≡ length done
   pub front : take count deals ≡ done
   pub room : count ≤ length deals
-
-pub mornings_start : (kept : List ℕ) (days : List DayAt) (xs deals : List DealIn) → AllRun kept days 0 (length days) xs → MorningsListing kept days 0 xs deals 0
-mornings_start kept days xs deals h =
-    record { done = []; rest = xs; all = refl; run = subst (λ n. AllRun kept days 0 n xs) (omega arith) h; many = refl; front = refl; room = omega arith }
 
 all_step : (kept : List ℕ) (days : List DayAt) (t n : ℕ) (xs : List DealIn) → 0 < n → AllRun kept days t n xs →
     (ys : List DealIn) × (zs : List DealIn) × DealsRun (bytes_of kept (get_or days t nowhere)) (get_or days t nowhere).parts.deals 2 t ys × AllRun kept days (t + 1) (n - 1) zs × (xs ≡ ys ++ zs)

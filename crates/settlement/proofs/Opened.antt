@@ -1,6 +1,6 @@
 -- New deals in the lent bytes, one after the other.
-use Rattle.std.proofs.Common.{◌≡◌, ℕ, suc, ◌+◌, ◌-◌, ◌*◌, ◌<◌, ◌≤◌, true, List, [], ◌∷◌, ◌++◌, length, get_or, sym, refl, ap, ◌∙◌, subst, ⊎_elim, add-zero, arith}
-use native.Mathlib.Nat.{add-sub_cancel_left, sub-zero}
+use Rattle.std.proofs.Common.{◌≡◌, ℕ, suc, ◌+◌, ◌-◌, ◌*◌, ◌<◌, ◌≤◌, true, List, [], ◌∷◌, ◌++◌, length, get_or, sym, refl, ap, ◌∙◌, subst, ⊎_elim, arith}
+use native.Mathlib.Nat.{add-sub_cancel_left}
 use borrow.Rule.Slice.PartMut.{put_mid}
 use Rattle.std.specs.List.{AllByRecursion, between}
 use Rattle.std.proofs.lemmas.List.{append-nil, append_assoc, length-append, get_or_append_left}
@@ -101,19 +101,6 @@ pub record Opening (st : Start) (day : ℕ) (bytes : List ℕ) (n first : ℕ) (
   pub many : length done ≡ k
   pub ahead : Row (n - k) (DealRead Thin st day) (first + k) bytes at (verdict.taken rest j)
   pub keeps : (c : ℕ) → c < first + k → Keeps s c (get_or (hs ++ taken done) c gone)
-
-pub opening_start : (st : Start) (day : ℕ) (bytes : List ℕ) (n first : ℕ) (dd : List Deal) (j : ℕ) (hs : List Held) (s : List ℕ) → Row n (DealRead Thin st day) first bytes 2 (verdict.taken dd j) →
-    ((c : ℕ) → c < first → Keeps s c (get_or hs c gone)) → Opening st day bytes n first dd j hs 0 2 s
-unfolding taken
-opening_start st day bytes n first dd j hs s row keeps =
-    record {
-      done = [];
-      rest = dd;
-      parts = refl;
-      many = refl;
-      ahead = subst (λ z. Row z (DealRead Thin st day) (first + 0) bytes 2 (verdict.taken dd j)) (sym (sub-zero n)) (subst (λ z. Row n (DealRead Thin st day) z bytes 2 (verdict.taken dd j)) (sym (add-zero first)) row);
-      keeps = λ c lt. subst (λ z. Keeps s c (get_or z c gone)) (sym (append-nil hs)) (keeps c (omega arith));
-    }
 
 -- one more
 pub opening_more : (st : Start) (day : ℕ) (bytes : List ℕ) (n first : ℕ) (dd : List Deal) (j : ℕ) (hs : List Held) (k at : ℕ) (s s' : List ℕ) (r : ℕ) → st.currencies ≤ 64 → k < n → length hs ≡ first →

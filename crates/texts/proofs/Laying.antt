@@ -27,9 +27,6 @@ put_then {a} {b} {c} {to} {next} {end} {u} {v} p q = record {
   behind = let x = p.behind in let y = q.behind in omega (arith, length-append u v);
 }
 
-pub put_none : (a : List ℕ) (to : ℕ) → Put a a to [] to
-put_none a to = record { bytes = refl; behind = omega arith }
-
 pub put_more : (a b c word : List ℕ) (to i next end : ℕ) → i < length word → Put a b to (take i word) next → Put b c next (get_or word i 0 ∷ []) end → Put a c to (take (i + 1) word) end
 put_more a b c word to i next end l p q = subst (λ w. Put a c to w end) (sym (take_more word i 0 l)) (put_then p q)
 
