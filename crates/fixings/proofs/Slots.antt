@@ -11,9 +11,6 @@ use Rattle.fixings.specs.Fixings.{slot, HoldsRates}
 pub row_end : (q p n : ℕ) → q < p → q * n + n ≤ p * n
 row_end q p n lt = omega (arith, suc-mul q n, mul-le (suc q) n p n lt (omega arith))
 
-pub slot_within : (q n k : ℕ) → q < 4097 → k < n → q * n + k < 4097 * n
-slot_within q n k lt few = omega (arith, row_end q 4097 n lt)
-
 slot_apart : (q p n l : ℕ) → q ≢ p → l < n → (p * n + l < q * n) ⊎ (q * n + n ≤ p * n + l)
 slot_apart q p n l ne few = ⊎_elim (λ lt. inr (omega (arith, row_end q p n lt))) (λ le. inl (omega (arith, row_end p q n (omega arith)))) (cases_lt q p)
 

@@ -16,18 +16,7 @@ use Rattle.mornings.proofs.Writing.{length_bytes}
 use Rattle.mornings.specs.Judgement.{few, DealRead, MorningRead, LaidOut}
 use Rattle.mornings.specs.declared.Start.{Start}
 use Rattle.mornings.specs.declared.Ends.{Ends}
-use Rattle.history.specs.History.{Stands, Same}
-use Rattle.history.specs.declared.History.{History}
 use Rattle.mornings.proofs.Fits.{row_length, deals_room}
-
--- the same mornings stand
-pub stands_same : (h h' : History) (ms : List Morning) → Same h h' → Stands h ms → Stands h' ms
-stands_same h h' ms same stands = record {
-  mornings = rw (same.start, same.kept, same.days) stands.mornings;
-  deals = same.deals ∙ stands.deals;
-  few = stands.few;
-  in_time = stands.in_time;
-}
 
 deals_after : (ms : List Morning) (m : Morning) → length (all_deals (ms ++ m ∷ [])) ≡ length (all_deals ms) + length m.deals
 unfolding all_deals

@@ -4,8 +4,7 @@ use Rattle.std.proofs.Common.{◌≡◌, ◌&&◌, refl, ap, ◌∙◌}
 use Rattle.deals.specs.Contract.{Contract, nothing, pays, turned, both, choice, either, scaled, on_day, when, by_day}
 use Rattle.deals.specs.Promise.{thin}
 use Rattle.texts.specs.Nodes.{nodes_of}
-use Rattle.texts.specs.Stages.{thin_node, all_thin, ThinTaken}
-use Rattle.texts.specs.declared.stages.Stage.TheVariants.{Thin, All}
+use Rattle.texts.specs.Stages.{thin_node, all_thin}
 
 pub thin_nodes : (x : Contract) → all_thin (nodes_of x) ≡ thin x
 unfolding thin
@@ -19,7 +18,3 @@ thin_nodes (scaled e x) = refl
 thin_nodes (on_day d x) = thin_nodes x
 thin_nodes (when e x) = refl
 thin_nodes (by_day d x) = refl
-
-pub thin_taken : ThinTaken
-thin_taken Thin rs cs x fits h = h
-thin_taken All rs cs x fits h = refl

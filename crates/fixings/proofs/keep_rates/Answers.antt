@@ -1,32 +1,8 @@
-use Rattle.std.proofs.Common.{◌≡◌, ◌+◌, ◌-◌, ◌*◌, ◌%◌, ◌≤◌, length, get_or, drop, pos, sym, ap, ◌∙◌, inl, inr, ⊎_elim, arith, w64, SFits, rules}
+use Rattle.std.proofs.Common.{◌≡◌, ◌+◌, ◌-◌, ◌*◌, ◌%◌, ◌≤◌, length, get_or, drop, pos, sym, ap, ◌∙◌, inl, inr, ⊎_elim, arith}
 use borrow.Rule.Slice.PartMut.{put_mid}
-use Rattle.std.proofs.lemmas.List.{get_or-set_same, get_or-set_other, length-take, length-drop}
-use Rattle.std.proofs.lemmas.Int.{to_z-of_z}
-use Rattle.std.proofs.lemmas.Bool.{cases_eq}
+use Rattle.std.proofs.lemmas.List.{length-take, length-drop}
 use Rattle.fixings.proofs.Slots.{row_end, one_more_day, put_length, put_there, put_apart}
-use Rattle.fixings.proofs.keep_rates.Goals.{then-bytes-lt8-via-then-bytes-lt8, then-bytes-lt8-via-else-bytes-lt8+then-at-bytes, then-bytes-lt8-via-else-bytes-lt8+else-at-bytes+then-k-bytes}
 use Rattle.fixings.proofs.keep_rates.Goals as goal
-
-pub loop-k-init : goal.loop-k-init
-loop-k-init c = λ j lt. absurd (omega arith)
-
-pub returns-then-bytes-lt8 : goal.returns-then-bytes-lt8
-returns-then-bytes-lt8 c ds d many rates h =
-    let here = (rates c.loop-k.k (omega arith)).1 in
-    elim c.then-bytes-lt8.branch [
-      | then-bytes-lt8-via-then-bytes-lt8 w ↦ absurd (omega (arith, here, w.if-bytes-lt8.true))
-      | then-bytes-lt8-via-else-bytes-lt8+then-at-bytes w ↦ absurd (omega (arith, here, w.if-bytes-lt8.false, w.if-at-bytes.true))
-      | then-bytes-lt8-via-else-bytes-lt8+else-at-bytes+then-k-bytes w ↦ absurd (omega (arith, here, w.if-bytes-lt8.false, w.if-at-bytes.false, w.if-k-bytes.true))
-    ]
-
-pub loop-k-preserved : goal.loop-k-preserved
-loop-k-preserved c =
-    let k = c.loop-k.k in
-    let fits : SFits w64 c.rate_at.result = search rules in
-    λ j lt.
-    ⊎_elim
-    (λ is. rw is (get_or-set_same c.loop-k.word-items k _ (pos 0) (omega arith) ∙ to_z-of_z w64 c.rate_at.result fits ∙ c.rate_at.ensures))
-    (λ ne. get_or-set_other c.loop-k.word-items k j _ (pos 0) ne ∙ c.loop-k.invariant j (omega arith)) (cases_eq j k)
 
 pub returns : goal.returns
 returns c ds d many rates h =

@@ -1,16 +1,11 @@
-use Rattle.std.proofs.Common.{◌+◌, ◌-◌, ◌%◌, get_or, pos, ap, ◌∙◌, ⊎_elim, arith, w64, SFits, rules}
+use Rattle.std.proofs.Common.{◌+◌, get_or, pos, ap, ◌∙◌, ⊎_elim, arith, w64, SFits, rules}
 use Rattle.std.proofs.lemmas.Int.{to_z-of_z}
-use Rattle.fixings.proofs.Slots.{slot_within, rate_before, rate_none}
+use Rattle.fixings.proofs.Slots.{rate_before, rate_none}
 use Rattle.fixings.proofs.look_back.Goals as goal
 
 pub returns-then-before-day : goal.returns-then-before-day
 returns-then-before-day c ds many few near h =
     ⊎_elim (λ lt. rate_none ds c.args.day c.args.k c.args.before lt) (λ w. absurd (omega (arith, w.1))) c.then-before-day.either
-
-pub bounds-words-first : goal.bounds-words-first
-bounds-words-first c =
-    let told = c.in-Some.ensures in
-    omega (arith, told.0, told.1, slot_within ((c.args.day - c.args.before) % 4097) c.args.n c.args.k (omega arith) c.if-k-n.false)
 
 pub returns : goal.returns
 returns c ds many few near h =

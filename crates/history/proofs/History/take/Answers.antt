@@ -1,45 +1,12 @@
-use Rattle.std.proofs.Common.{◌≡◌, ◌+◌, ◌*◌, min, [], ◌∷◌, ◌++◌, length, refl, ap, ap₂, ◌∙◌, subst, arith, length-append}
-use Rattle.std.proofs.lemmas.Result.{err_from_is_err_and}
+use Rattle.std.proofs.Common.{◌≡◌, ◌+◌, ◌*◌, min, [], ◌∷◌, ◌++◌, length, ap, ap₂, ◌∙◌, subst, arith, length-append}
 use Rattle.deals.specs.Contract.{Morning, all_deals}
 use Rattle.texts.specs.declared.stages.Stage.TheVariants.{All}
 use Rattle.mornings.specs.Payments.{payments_bytes}
-use Rattle.mornings.specs.Verdict.{refused}
-use Rattle.mornings.specs.Judgement.{fault_of, MorningRead, LaidOut}
+use Rattle.mornings.specs.Judgement.{LaidOut}
 use Rattle.replay.specs.Standing.{MorningsStand, net_payments}
 use Rattle.replay.proofs.Anew.{stands_anew_lem}
-use Rattle.history.proofs.Kept.{in_time, deals_more, few_deals, stands_same, written_all, cut_behind}
+use Rattle.history.proofs.Kept.{in_time, deals_more, few_deals, written_all, cut_behind}
 use Rattle.history.proofs.History.take.Goals as goal
-
-pub returns-in_err-parts : goal.returns-in_err-parts
-returns-in_err-parts c =
-    let p = err_from_is_err_and c.from_residual.result c.from_residual.ensures.1 in
-    record {
-      start = refl;
-      answers = λ ms stands.
-          let day : c.min-day.result ≡ length ms = omega (arith, stands.in_time, stands.mornings.many) in
-          let read = c.in_err-parts.ensures in
-          rw (p.1, p.2) (record {
-            why = subst (λ d. MorningRead All c.args.self.now.start d (length (all_deals ms)) c.args.bytes.now 0 (refused (fault_of c.in_err-parts.field-0.0))) day
-                (subst (λ n. MorningRead All c.args.self.now.start c.min-day.result n c.args.bytes.now 0 (refused (fault_of c.in_err-parts.field-0.0))) stands.deals read);
-            pays = refl;
-            stands = stands;
-          });
-    }
-
-pub returns-in_err-make_room : goal.returns-in_err-make_room
-returns-in_err-make_room c =
-    let p = err_from_is_err_and c.from_residual-in_err-make_room.result c.from_residual-in_err-make_room.ensures.1 in
-    let same = c.make_room.ensures.same in
-    record {
-      start = same.start;
-      answers = λ ms stands. rw (p.1, p.2, c.in_err-make_room.ensures.full) (record { why = tt; pays = tt; stands = stands_same c.args.self.now c.make_room.new.self ms same stands });
-    }
-
-pub returns-in_err-extend_from_slice : goal.returns-in_err-extend_from_slice
-returns-in_err-extend_from_slice c = absurd (let full = c.in_err-extend_from_slice.ensures.full in let room = c.in_ok-make_room.ensures.room in omega arith)
-
-pub returns-in_err-push : goal.returns-in_err-push
-returns-in_err-push c = absurd (let full = c.in_err-push.ensures.full in let room = c.in_ok-make_room.ensures.room in omega arith)
 
 pub returns : goal.returns
 returns c =

@@ -2,11 +2,8 @@ use Rattle.std.proofs.Common.{arith}
 use Rattle.std.specs.Prelude.{Ok, Err}
 use Rattle.std.proofs.lemmas.Result.{err_from_is_err_and}
 use Rattle.mornings.specs.Judgement.{DealRead}
-use Rattle.mornings.proofs.Rows.{reached_none, reached_more, reached_refused, reached_all, row_passes}
+use Rattle.mornings.proofs.Rows.{reached_more, reached_refused, reached_all, row_passes}
 use Rattle.mornings.proofs.parts.deals.Goals as goal
-
-pub loop-k-init : goal.loop-k-init
-loop-k-init c = reached_none _ c.args.n c.args.so_far c.args.at
 
 pub returns-in_err-to : goal.returns-in_err-to
 returns-in_err-to c =

@@ -1,10 +1,7 @@
 use Rattle.std.proofs.Common.{arith}
 use Rattle.std.proofs.lemmas.Result.{err_from_is_err_and}
-use Rattle.mornings.proofs.Rows.{reached_none, reached_more, reached_refused, reached_all}
+use Rattle.mornings.proofs.Rows.{reached_more, reached_refused, reached_all}
 use Rattle.mornings.proofs.parts.row.Goals as goal
-
-pub loop-k-init : goal.loop-k-init
-loop-k-init g c = reached_none _ c.args.n 0 c.args.at
 
 pub returns-in_err-to : goal.returns-in_err-to
 returns-in_err-to g c =

@@ -1,4 +1,4 @@
-use Rattle.std.proofs.Common.{◌≡◌, ◌<◌, ◌++◌, map, length, get_or, pos, ◌-ℤ◌, refl, ap, ◌∙◌, subst, ⊎_elim, arith, w64, rules}
+use Rattle.std.proofs.Common.{◌≡◌, ◌<◌, ◌++◌, map, length, get_or, pos, ◌-ℤ◌, ap, ◌∙◌, subst, ⊎_elim, arith, w64, rules}
 use Rattle.std.specs.Int.{int_wrap}
 use Rattle.std.proofs.lemmas.Bool.{cases_eq}
 use Rattle.std.proofs.lemmas.Int.{wrapping_sub_is, int_wrap_fits, SFits-int_wrap}
@@ -8,9 +8,6 @@ use Rattle.mornings.proofs.Writing.{zeros_more, behind_more}
 use Rattle.settlement.specs.Paying.{Written, pair_payments}
 use Rattle.settlement.proofs.Writing.{to_shared, from_shared, as_long}
 use Rattle.settlement.proofs.payments.net_pair.Goals as goal
-
-pub loop-k-init : goal.loop-k-init
-loop-k-init c = (λ j lt. absurd (omega arith), λ j lt. absurd (omega arith), λ j le. refl, λ j le. refl)
 
 pub loop-k-preserved : goal.loop-k-preserved
 loop-k-preserved c =
