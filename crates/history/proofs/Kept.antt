@@ -6,25 +6,21 @@ use Rattle.deals.specs.Contract.{Morning, all_deals}
 use Rattle.texts.specs.declared.stages.Stage.TheVariants.{All}
 use Rattle.mornings.specs.Payments.{payments_bytes}
 use Rattle.mornings.specs.declared.payments.Payment.{Payment}
-use Rattle.mornings.specs.Verdict.{taken}
 use Rattle.replay.specs.declared.days.DayAt.{DayAt}
 use Rattle.replay.specs.declared.settle.Short.{Short}
 use Rattle.replay.specs.declared.settle.Short.TheVariants.{Deals, Keys, Payments}
-use Rattle.mornings.specs.Pairs.{Written}
-use Rattle.replay.specs.Standing.{DayPaid, MorningsStand, net_payments}
+use Rattle.mornings.specs.Pairs.{Written, net_payments}
+use Rattle.replay.specs.Standing.{DayPaid, MorningsStand}
 use Rattle.mornings.proofs.Writing.{length_bytes}
-use Rattle.mornings.specs.Judgement.{few, DealRead, MorningRead, LaidOut}
+use Rattle.mornings.specs.Judgement.{DealRead, LaidOut}
 use Rattle.mornings.specs.declared.Start.{Start}
 use Rattle.mornings.specs.declared.Ends.{Ends}
-use Rattle.mornings.proofs.Fits.{row_length, deals_room}
+use Rattle.mornings.proofs.Fits.{row_length, deals_room, on_a_day}
 
 deals_after : (ms : List Morning) (m : Morning) → length (all_deals (ms ++ m ∷ [])) ≡ length (all_deals ms) + length m.deals
 unfolding all_deals
 deals_after [] m = length-append m.deals [] ∙ omega arith
 deals_after (k ∷ ms) m = omega (arith, length-append k.deals (all_deals (ms ++ m ∷ [])), length-append k.deals (all_deals ms), deals_after ms m)
-
-on_a_day : {st : Start} {day n : ℕ} {s : List ℕ} {m : Morning} {j : ℕ} → MorningRead All st day n s 0 (taken m j) → day < 65536
-on_a_day (few h r) = h
 
 module _ (st : Start) (s : List ℕ) (ms : List Morning) (ends : Ends) (m : Morning) (laid : LaidOut All st (length ms) (length (all_deals ms)) s ends m) where
   pub in_time : length ms < 65536

@@ -6,7 +6,8 @@ use Rattle.mornings.specs.Verdict.{taken, refused}
 use Rattle.mornings.specs.Judgement.{fault_of, MorningRead}
 use Rattle.mornings.specs.Payments.{payments_bytes}
 use Rattle.mornings.specs.declared.Start.{Start}
-use Rattle.replay.specs.Standing.{MorningsStand, net_payments}
+use Rattle.mornings.specs.Pairs.{net_payments}
+use Rattle.replay.specs.Standing.{MorningsStand}
 use Rattle.history.specs.declared.History.{History}
 use Rattle.history.specs.declared.NotTaken.{NotTaken}
 use Rattle.history.specs.declared.NotTaken.TheVariants.{Refused, OutOfMemory}

@@ -69,6 +69,10 @@ morning_fits stage st day so_far s m j bytes room (few lt (goes (right h _) (goe
       choices = row_all ChoiceFits (λ _. ChoiceRead) s (λ _ i c j. choice_fits s i c j) _ 0 _ cs k choices;
     })
 
+-- a morning that is taken is one of the first 65,536
+pub on_a_day : {stage : Stage} {st : Start} {day n : ℕ} {s : List ℕ} {m : Morning} {j : ℕ} → MorningRead stage st day n s 0 (taken m j) → day < 65536
+on_a_day (few h r) = h
+
 -- mornings one after the other
 judged_fits : (stage : Stage) (st : Start) (day so_far : ℕ) (ms : List Morning) → day ≤ 65536 → so_far ≤ 65536 → JudgedAll stage st day so_far ms → Fit (built_at stage) st.houses st.rates st.currencies day ms × (so_far + length (all_deals ms) ≤ 65536) × (day + length ms ≤ 65536)
 unfolding Fit all_deals

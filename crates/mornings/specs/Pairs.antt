@@ -1,9 +1,10 @@
 -- What a pair has come to, as payments in lent bytes. Assumes nothing: these are definitions.
 use Rattle.std.specs.Prelude.{◌≡◌, ℕ, ◌+◌, ◌*◌, ◌<◌, ◌≤◌, List, [], ◌∷◌, ◌++◌, map, length, drop, ℤ, pos, Some, None, Option, slice_index_or}
 use Rattle.std.specs.Int.{int_wrap, w64}
-use Rattle.deals.specs.Contract.{pick, is_zero}
-use Rattle.deals.specs.Lines.{pair_lines}
+use Rattle.deals.specs.Contract.{Morning, pick, is_zero, net}
+use Rattle.deals.specs.Lines.{pair_lines, all_lines}
 use Rattle.deals.specs.Payments.{Payment as Paid, written}
+use Rattle.mornings.specs.declared.Start.{Start}
 use Rattle.mornings.specs.declared.payments.Payment.{Payment}
 use Rattle.mornings.specs.Payments.{payments_bytes}
 
@@ -45,3 +46,7 @@ abbrev pub PairPaid : ℕ → ℕ → ℕ → List ℤ → List ℕ → ℕ → 
 PairPaid a b n sums s r sums' s' =
     (was : List ℕ) (ps : List Payment) (f : ℕ → ℤ) → Written was ps n s → ((k : ℕ) → k < length sums → int_wrap w64 (slice_index_or sums k (pos 0)) ≡ f k) →
     13 * n + 13 * length (pair_payments (length sums) a b f) ≤ length was → PairDone was (ps ++ pair_payments (length sums) a b f) r sums' s'
+
+-- what is paid on the last of some mornings: for each two houses, the lower first, and each currency, what the deals between them come to that day, if it isn't 0
+unfoldable pub net_payments : Start → List Morning → List Payment
+net_payments st ms = map (λ l. as_bytes (written l)) (all_lines st.houses st.currencies (λ a b k. net ms k a b))

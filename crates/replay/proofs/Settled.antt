@@ -27,7 +27,8 @@ use Rattle.replay.specs.Meaning.{DaysAre, dues_on, as_due}
 use Rattle.replay.specs.Order.{pair_in, keys_from}
 use Rattle.replay.specs.Adding.{OwesIt}
 use Rattle.replay.specs.Settle.{Ordered, owed_by, grouped_payments}
-use Rattle.replay.specs.Standing.{no_morning, MorningsStand, net_payments}
+use Rattle.mornings.specs.Pairs.{net_payments}
+use Rattle.replay.specs.Standing.{no_morning, MorningsStand}
 use Rattle.replay.proofs.InTurn.{none_listed, some_listed}
 use Rattle.replay.proofs.Ordering.{no_deal}
 use Rattle.replay.proofs.Judged.{Matches, matches_long, matches_at, all_listed, rates_stand, chosen_stand}

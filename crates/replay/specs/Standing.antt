@@ -1,19 +1,16 @@
 -- When lent memory stands for mornings that were taken, and what is then paid on the last of them. Assumes nothing: these are definitions.
-use Rattle.std.specs.Prelude.{◌≡◌, ℕ, ◌+◌, ◌*◌, ◌<◌, ◌≤◌, List, [], ◌∷◌, ◌++◌, map, length, get_or, take, Result, MatchResult, slice_index_or}
-use Rattle.deals.specs.Contract.{Morning, no_day, net, all_deals}
-use Rattle.deals.specs.Lines.{all_lines}
-use Rattle.deals.specs.Payments.{written}
+use Rattle.std.specs.Prelude.{◌≡◌, ℕ, ◌+◌, ◌*◌, ◌<◌, ◌≤◌, List, [], ◌∷◌, ◌++◌, length, get_or, take, Result, MatchResult, slice_index_or}
+use Rattle.deals.specs.Contract.{Morning, no_day, all_deals}
 use Rattle.texts.specs.declared.stages.Stage.TheVariants.{All}
 use Rattle.mornings.specs.Judgement.{LaidOut}
 use Rattle.mornings.specs.Written.{StartFits}
 use Rattle.mornings.specs.declared.Start.{Start}
 use Rattle.mornings.specs.declared.Ends.{Ends}
-use Rattle.mornings.specs.declared.payments.Payment.{Payment}
 use Rattle.replay.specs.declared.days.DayAt.{DayAt}
 use Rattle.replay.specs.declared.settle.Short.{Short}
 use Rattle.replay.specs.declared.settle.Short.TheVariants.{Deals, Keys, Payments}
 use Rattle.replay.specs.Days.{nowhere, bytes_of}
-use Rattle.mornings.specs.Pairs.{as_bytes, Written}
+use Rattle.mornings.specs.Pairs.{net_payments, Written}
 
 abbrev pub no_morning : Morning
 no_morning = record { deals = []; day = no_day }
@@ -33,10 +30,6 @@ StandsAnew =
     × ((st : Start) (kept s : List ℕ) (days : List DayAt) (ms : List Morning) (ends : Ends) (m : Morning) → MorningsStand st kept days ms →
     LaidOut All st (length ms) (length (all_deals ms)) s ends m →
     MorningsStand st (kept ++ s) (days ++ record { from = length kept; to = length kept + length s; parts = ends } ∷ []) (ms ++ m ∷ []))
-
--- what is paid on the last of some mornings: for each two houses, the lower first, and each currency, what the deals between them come to that day, if it isn't 0
-unfoldable pub net_payments : Start → List Morning → List Payment
-net_payments st ms = map (λ l. as_bytes (written l)) (all_lines st.houses st.currencies (λ a b k. net ms k a b))
 
 -- which lent slice is too short for n deals
 abbrev pub TooShort : Short → ℕ → ℕ → ℕ → ℕ → ℕ → Type 0

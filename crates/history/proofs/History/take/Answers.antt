@@ -3,7 +3,8 @@ use Rattle.deals.specs.Contract.{Morning, all_deals}
 use Rattle.texts.specs.declared.stages.Stage.TheVariants.{All}
 use Rattle.mornings.specs.Payments.{payments_bytes}
 use Rattle.mornings.specs.Judgement.{LaidOut}
-use Rattle.replay.specs.Standing.{MorningsStand, net_payments}
+use Rattle.mornings.specs.Pairs.{net_payments}
+use Rattle.replay.specs.Standing.{MorningsStand}
 use Rattle.replay.proofs.Anew.{stands_anew_lem}
 use Rattle.history.proofs.Kept.{in_time, deals_more, few_deals, written_all, cut_behind}
 use Rattle.history.proofs.History.take.Goals as goal
