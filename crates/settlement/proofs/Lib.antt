@@ -5,4 +5,9 @@ pub mod Words
 pub mod Walking
 pub mod Collecting
 pub mod Settling
+pub mod Handed
 pub mod Opened
+pub mod Pairs
+pub mod Lengths
+pub mod Taking
+pub mod Runs

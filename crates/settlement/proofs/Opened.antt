@@ -3,7 +3,7 @@ use Rattle.std.proofs.Common.{◌≡◌, ℕ, suc, ◌+◌, ◌-◌, ◌*◌, �
 use native.Mathlib.Nat.{add-sub_cancel_left}
 use borrow.Rule.Slice.PartMut.{put_mid}
 use Rattle.std.specs.List.{AllByRecursion, between}
-use Rattle.std.proofs.lemmas.List.{append-nil, append_assoc, length-append, get_or_append_left}
+use Rattle.std.proofs.lemmas.List.{append_assoc, length-append, get_or_append_left}
 use Rattle.std.proofs.lemmas.Bool.{cases_eq}
 use Rattle.octets.specs.Octets.{field, word}
 use Rattle.deals.specs.Contract.{Contract, Deal}
@@ -16,11 +16,8 @@ use Rattle.texts.specs.declared.nodes.Node.{Node}
 use Rattle.texts.specs.declared.stages.Stage.TheVariants.{Thin}
 use Rattle.texts.proofs.Verdicts.{one_verdict}
 use Rattle.mornings.specs.declared.Start.{Start}
-use Rattle.mornings.specs.Verdict as verdict
-use Rattle.mornings.specs.Verdict.{Row}
-use Rattle.mornings.specs.Judgement.{DealRead}
 use Rattle.mornings.specs.Places.{deal_at, IsDeal}
-use Rattle.mornings.proofs.Handed.{handed_out, walked}
+use Rattle.mornings.proofs.Handed.{handed_out}
 use Rattle.residual.specs.declared.deal.Summary.{Summary}
 use Rattle.residual.specs.Deal.{Opens}
 use Rattle.settlement.specs.Directory.{part_of, EntryPut}
@@ -29,6 +26,7 @@ use Rattle.settlement.specs.Opening.{new_deal, OpenedDeal, OpenedNext}
 use Rattle.settlement.proofs.Places.{deal_lent}
 use Rattle.settlement.proofs.Waking.{part_long}
 use Rattle.settlement.proofs.Words.{keeps_moved}
+use Rattle.settlement.proofs.Handed.{Ahead, ahead_more, ahead_end, next_has}
 
 -- the part is lent, then the entry is written
 pub opened_lent : (c holder other from : ℕ) (s s' bs : List ℕ) (marks : List Node) (kept : Summary) → 16384 * c + 16384 ≤ length s → length bs ≡ length (field (16384 * c + 12288 - 16384 * c) s (16384 * c)) →
@@ -72,7 +70,7 @@ unfolding taken
 more_taken [] d = refl
 more_taken (x ∷ xs) d = ap (λ z. new_deal x ∷ z) (more_taken xs d)
 
-taken_many : (xs : List Deal) → length (taken xs) ≡ length xs
+pub taken_many : (xs : List Deal) → length (taken xs) ≡ length xs
 unfolding taken
 taken_many [] = refl
 taken_many (x ∷ xs) = ap suc (taken_many xs)
@@ -80,10 +78,6 @@ taken_many (x ∷ xs) = ap suc (taken_many xs)
 getD_last : (xs : List Held) (x : Held) → get_or (xs ++ x ∷ []) (length xs) gone ≡ x
 getD_last [] x = refl
 getD_last (y ∷ xs) x = getD_last xs x
-
-among : (xs : List Deal) (d : Deal) (ys : List Deal) → AllByRecursion (λ z. z.from < 65536) (xs ++ d ∷ ys) → d.from < 65536
-among [] d ys (a, h) = a
-among (x ∷ xs) d ys (a, h) = among xs d ys h
 
 -- where no deal can stand, nothing is written
 pub not_opened : (st : Start) (bytes : List ℕ) (c at : ℕ) (s : List ℕ) → ((day : ℕ) (d : Deal) (j : ℕ) → IsDeal Thin st bytes (deal_at bytes at) d j → ⊥) → OpenedNext st bytes c at s at s
@@ -95,65 +89,36 @@ not_opened st bytes c at s none =
 
 -- some of the deals have been written, and the others stand behind a place
 pub record Opening (st : Start) (day : ℕ) (bytes : List ℕ) (n first : ℕ) (dd : List Deal) (j : ℕ) (hs : List Held) (k at : ℕ) (s : List ℕ) : Type 0 where
-  pub done : List Deal
-  pub rest : List Deal
-  pub parts : dd ≡ done ++ rest
-  pub many : length done ≡ k
-  pub ahead : Row (n - k) (DealRead Thin st day) (first + k) bytes at (verdict.taken rest j)
-  pub keeps : (c : ℕ) → c < first + k → Keeps s c (get_or (hs ++ taken done) c gone)
+  pub ahead : Ahead st day bytes n first dd j k at
+  pub keeps : (c : ℕ) → c < first + k → Keeps s c (get_or (hs ++ taken ahead.done) c gone)
 
 -- one more
 pub opening_more : (st : Start) (day : ℕ) (bytes : List ℕ) (n first : ℕ) (dd : List Deal) (j : ℕ) (hs : List Held) (k at : ℕ) (s s' : List ℕ) (r : ℕ) → st.currencies ≤ 64 → k < n → length hs ≡ first →
     16384 * (first + n) ≤ length s → AllByRecursion (λ d. d.from < 65536) dd → OpenedNext st bytes (first + k) at s r s' → Opening st day bytes n first dd j hs k at s → Opening st day bytes n first dd j hs (k + 1) r s'
 opening_more st day bytes n first dd j hs k at s s' r coins lt many-hs long early opened o =
-    let here = (walked.0 Thin st day).1 (n - (k + 1)) (first + k) at j bytes o.rest (subst (λ z. Row z (DealRead Thin st day) (first + k) bytes at (verdict.taken o.rest j)) left o.ahead) in
-    let d = here.0 in
-    let rest = here.1 in
-    let next = here.2 in
-    let met = opened.means day d next coins here.4 in
-    let all : dd ≡ (o.done ++ d ∷ []) ++ rest = o.parts ∙ ap (λ z. o.done ++ z) here.3 ∙ sym (append_assoc o.done (d ∷ []) rest) in
-    let held : Keeps s' (first + k) (new_deal d) = met.1 (mine d rest all) in
-    record {
-      done = o.done ++ d ∷ [];
-      rest = rest;
-      parts = all;
-      many = length-append o.done (d ∷ []) ∙ omega (arith, o.many);
-      ahead = subst (λ z. Row (n - (k + 1)) (DealRead Thin st day) z bytes r (verdict.taken rest j)) behind (subst (λ z. Row (n - (k + 1)) (DealRead Thin st day) (suc (first + k)) bytes z (verdict.taken rest j)) (sym met.0) here.5);
+    let x = ahead_more st day bytes n first dd j k at lt o.ahead in
+    let met = opened.means day x.deal x.to coins x.read in
+    let held : Keeps s' (first + k) (new_deal x.deal) = met.1 (next_has (λ d. d.from < 65536) st day bytes n first dd j k at o.ahead x early) in
+    let before = hs ++ taken o.ahead.done in
+    let front : length before ≡ first + k = length-append hs (taken o.ahead.done) ∙ omega (arith, many-hs, taken_many o.ahead.done, o.ahead.many) in
+    let last_one : get_or (before ++ new_deal x.deal ∷ []) (first + k) gone ≡ new_deal x.deal =
+    ap (λ z. get_or (before ++ new_deal x.deal ∷ []) z gone) (sym front) ∙ getD_last before (new_deal x.deal) in
+    let all : hs ++ taken x.behind.done ≡ before ++ new_deal x.deal ∷ [] =
+    ap (λ z. hs ++ taken z) x.done_is ∙ ap (λ z. hs ++ z) (more_taken o.ahead.done x.deal) ∙ sym (append_assoc hs (taken o.ahead.done) (new_deal x.deal ∷ [])) in
+    subst (λ z. Opening st day bytes n first dd j hs (k + 1) z s') (sym met.0)
+    (record {
+      ahead = x.behind;
       keeps = λ c below.
-          subst (λ z. Keeps s' c (get_or z c gone)) (sym (ap (λ z. hs ++ z) (more_taken o.done d) ∙ sym (append_assoc hs (taken o.done) (new_deal d ∷ []))))
-          (⊎_elim
-          (λ is. subst (λ z. Keeps s' z (get_or ((hs ++ taken o.done) ++ new_deal d ∷ []) z gone)) (sym is) (subst (Keeps s' (first + k)) (sym (last_one d)) held))
+          subst (λ z. Keeps s' c (get_or z c gone)) (sym all)
+          (⊎_elim (λ is. subst (λ z. Keeps s' z (get_or (before ++ new_deal x.deal ∷ []) z gone)) (sym is) (subst (Keeps s' (first + k)) (sym last_one) held))
           (λ ne.
-          subst (Keeps s' c) (sym (get_or_append_left (hs ++ taken o.done) (new_deal d ∷ []) gone c (omega (arith, front))))
-          (keeps_moved s s' c (get_or (hs ++ taken o.done) c gone) (opened.others.parts c ne (omega arith)) (opened.others.entries c ne (omega arith)) (o.keeps c (omega arith))))
+          subst (Keeps s' c) (sym (get_or_append_left before (new_deal x.deal ∷ []) gone c (omega (arith, front))))
+          (keeps_moved s s' c (get_or before c gone) (opened.others.parts c ne (omega arith)) (opened.others.entries c ne (omega arith)) (o.keeps c (omega arith))))
           (cases_eq c (first + k)));
-    }
-  where
-    left : n - k ≡ suc (n - (k + 1))
-    left = omega arith
-
-    behind : suc (first + k) ≡ first + (k + 1)
-    behind = omega arith
-
-    front : length (hs ++ taken o.done) ≡ first + k
-    front = length-append hs (taken o.done) ∙ omega (arith, many-hs, taken_many o.done, o.many)
-
-    last_one : (d : Deal) → get_or ((hs ++ taken o.done) ++ new_deal d ∷ []) (first + k) gone ≡ new_deal d
-    last_one d = ap (λ z. get_or ((hs ++ taken o.done) ++ new_deal d ∷ []) z gone) (sym front) ∙ getD_last (hs ++ taken o.done) (new_deal d)
-
-    mine : (d : Deal) (rest : List Deal) → dd ≡ (o.done ++ d ∷ []) ++ rest → d.from < 65536
-    mine d rest all = among o.done d rest (subst (AllByRecursion (λ z. z.from < 65536)) (all ∙ append_assoc o.done (d ∷ []) rest) early)
+    })
 
 -- all of them
 pub opening_end : (st : Start) (day : ℕ) (bytes : List ℕ) (n first : ℕ) (dd : List Deal) (j : ℕ) (hs : List Held) (k at : ℕ) (s : List ℕ) → k ≡ n → Opening st day bytes n first dd j hs k at s →
     (c : ℕ) → c < first + n → Keeps s c (get_or (hs ++ taken dd) c gone)
 opening_end st day bytes n first dd j hs k at s all o c below =
-    let none : length o.rest ≡ 0 = (walked.0 Thin st day).0 0 (first + k) at j bytes o.rest (subst (λ z. Row z (DealRead Thin st day) (first + k) bytes at (verdict.taken o.rest j)) over o.ahead) in
-    subst (λ z. Keeps s c (get_or (hs ++ taken z) c gone)) (sym (o.parts ∙ ap (λ z. o.done ++ z) (empty o.rest none) ∙ append-nil o.done)) (o.keeps c (omega arith))
-  where
-    over : n - k ≡ 0
-    over = omega arith
-
-    empty : (xs : List Deal) → length xs ≡ 0 → xs ≡ []
-    empty [] e = refl
-    empty (x ∷ xs) e = absurd (omega arith)
+    subst (λ z. Keeps s c (get_or (hs ++ taken z) c gone)) (sym (ahead_end st day bytes n first dd j k at all o.ahead)) (o.keeps c (omega arith))

@@ -5,3 +5,7 @@ pub mod Walk
 pub mod Order
 pub mod Settled
 pub mod Opening
+pub mod Counting
+pub mod Room
+pub mod Remains
+pub mod Runs
