@@ -218,11 +218,16 @@ def parts_of(x):
     return [(0, x[-1])]
 
 
+def is_thin(x):
+    """Whether a thin house takes it: nothing, pays, turned, both and on alone."""
+    return x[0] in ("nothing", "pays", "turned", "both", "on") and all(is_thin(y) for _, y in parts_of(x))
+
+
 def deepest(x):
     """The longest way to a choice or a by, or -1."""
     own = 0 if x[0] in ("choice", "by") else -1
-    below = [deepest(y) + 1 for _, y in parts_of(x) if deepest(y) >= 0]
-    return max([own] + below)
+    below = [deepest(y) for _, y in parts_of(x)]
+    return max([own] + [n + 1 for n in below if n >= 0])
 
 
 def read_text(text, rates, currencies):
@@ -318,7 +323,7 @@ def too_many(b, right):
     raise Refused(4, at)
 
 
-def judge_deal(b, start, day, number):
+def judge_deal(b, start, day, number, thin):
     houses, rates, currencies = start
     if number >= 65536:
         too_many(b, lambda v: v < houses)
@@ -341,17 +346,19 @@ def judge_deal(b, start, day, number):
         x = read_text(text, rates, currencies)
     except Refused as r:
         raise Refused(r.number, at + r.place)
+    if thin and not is_thin(x):
+        raise Refused(1, at)
     b.at = at + n
     return holder, other, begins, x
 
 
-def judge_morning(data, start, day, so_far):
+def judge_morning(data, start, day, so_far, thin=False):
     b = Bytes(data)
     if day >= 65536:
         too_many(b, lambda v: True)
     deals = []
     for j in range(b.take(2)):
-        deals.append(judge_deal(b, start, day, so_far + j))
+        deals.append(judge_deal(b, start, day, so_far + j, thin))
     rates = [b.take(8, lambda v: abs(v) <= 10**9, signed=True) for _ in range(start[1])]
     choices = set()
     for _ in range(b.take(2)):
@@ -433,8 +440,8 @@ def payments(deals, days):
     return lines
 
 
-def run(start, mornings):
-    """The lines that a program prints for a start and some mornings."""
+def run(start, mornings, thin=False):
+    """The lines that a program prints for a start and some mornings; a thin house refuses contracts of other forms, though they are in bounds, with 1 at the text's first byte."""
     try:
         begun = judge_start(start)
     except Refused as r:
@@ -442,7 +449,7 @@ def run(start, mornings):
     lines, deals, days = [], [], []
     for data in mornings:
         try:
-            new, rates, choices = judge_morning(data, begun, len(days), len(deals))
+            new, rates, choices = judge_morning(data, begun, len(days), len(deals), thin)
         except Refused as r:
             lines.append(str(r))
             continue
@@ -462,7 +469,7 @@ def start_bytes(houses, rates, currencies):
 
 def morning_bytes(deals, rates, choices):
     """Deals as (holder, other, day, text)."""
-    out = len(deals).to_bytes(2, "little")
+    out = bytearray(len(deals).to_bytes(2, "little"))
     for holder, other, begins, text in deals:
         text = text.encode()
         out += holder.to_bytes(2, "little") + other.to_bytes(2, "little") + begins.to_bytes(4, "little") + len(text).to_bytes(2, "little") + text
@@ -471,20 +478,23 @@ def morning_bytes(deals, rates, choices):
     out += len(choices).to_bytes(2, "little")
     for deal, way in choices:
         out += deal.to_bytes(4, "little") + len(way).to_bytes(1, "little") + bytes(way)
-    return out
+    return bytes(out)
 
 
 # BOOKS AT RANDOM
 
 
 class Maker:
-    def __init__(self, seed, thin=False):
+    def __init__(self, seed, thin=False, long=False):
         self.r = random.Random(seed)
         self.thin = thin
+        self.long = long
         self.houses = self.r.randint(2, 4)
         self.rates = self.r.randint(1, 3)
         self.currencies = self.r.randint(1, 3)
-        self.last = self.r.randint(3, 9)
+        self.last = self.r.randint(3, 30 if long else 9)
+        # now and then so many deals that a house keeps them in more than one directory
+        self.deals = [0, 12, 24, 48] if long and self.r.random() < 0.1 else [0, 1, 1, 2, 3]
 
     def figure(self, depth):
         r = self.r
@@ -523,7 +533,7 @@ class Maker:
     def morning(self, day, known):
         r = self.r
         new = []
-        for _ in range(r.choice([0, 1, 1, 2, 3])):
+        for _ in range(r.choice(self.deals)):
             holder = r.randrange(self.houses)
             other = r.choice([h for h in range(self.houses) if h != holder])
             new.append((holder, other, day + r.choice([0, 0, 0, 1, 2]), self.contract(r.randint(0, 5))))
@@ -561,7 +571,7 @@ class Maker:
             if self.r.random() < spoil:
                 mornings.append(self.spoilt(data))
                 try:
-                    judge_morning(mornings[-1], (self.houses, self.rates, self.currencies), day, len(known))
+                    judge_morning(mornings[-1], (self.houses, self.rates, self.currencies), day, len(known), self.thin and self.long)
                     continue
                 except Refused:
                     pass

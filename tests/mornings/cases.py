@@ -1,10 +1,14 @@
 """Mornings, good and damaged, each with the verdict on it: the table below by hand, the others worked out by judge.py, which must agree with the table.
 
-  python3 tests/mornings/cases.py     writes crates/judge_lines/stdin and stdout, and the data of crates/house, from the repository's root
+  python3 tests/mornings/cases.py     writes crates/judge_lines/stdin and stdout, and the book of crates/house with what must be printed for it, from the repository's root
 """
 import os
 import struct
+import sys
 from judge import verdict
+
+sys.path.insert(0, os.path.join(os.path.dirname(__file__), '..'))
+import model
 
 START = struct.pack('<HHB', 4, 2, 1)    # four houses, two rates, one currency
 
@@ -191,30 +195,52 @@ def write_lines(folder):
             said.write(verdict(stage, start, day, so_far, data) + '\n')
 
 
+# a book for the house: five houses, two rates, three currencies
+BOOK_START = struct.pack('<HHB', 5, 2, 3)
+FIRST = [
+    deal(0, 1, 0, 'pays 100 0'),
+    deal(1, 0, 0, 'pays 40 0'),
+    deal(1, 2, 0, 'on 2: pays 7 0'),
+    deal(3, 0, 0, 'both(pays 30 1, on 3: turned(pays 5 2))'),
+    deal(4, 2, 0, 'turned(both(pays 9 2, turned(pays 4 0)))'),
+    deal(2, 3, 0, 'both(pays 8 1, on 4: pays 1 1)'),
+    deal(3, 2, 0, 'pays 8 1'),
+    deal(4, 3, 2, 'pays 11 0'),
+]
+SECOND = morning([deal(3, 1, 1, 'both(on 0: pays 77 0, on 5: pays 6 0)'), deal(1, 3, 1, 'on 5: pays 6 0'), deal(2, 0, 4, 'on 3: pays 2 2')], (10**9, -10**9), [choice(7, [0, 1])])
+# in order: what is refused is not done, and the next is tried as the same day
+BOOK = [
+    morning(FIRST, (1, -1)),
+    SECOND[:30] + b'p' + SECOND[31:],
+    SECOND[:-1],
+    SECOND,
+    morning([deal(0, 1, 2, 'pays -3 2')]) + b'\0',
+    morning([deal(0, 1, 1, N)]),
+    morning([deal(0, 1, 2, 'nothung')]),
+    morning([deal(0, 1, 2, 'both(pays 5 0, by 4: nothing)')]),
+    morning([deal(0, 1, 2, 'pays 1 3')]),
+    morning([deal(0, 1, 2, 'pays -3 2'), deal(2, 1, 2, 'pays 7 0')]),
+    morning(),
+    morning([deal(4, 0, 4, 'on 4: both(pays 1099511627775 1, turned(on 4: nothing))')]),
+    morning(),
+]
+
+
 def write_house(folder):
-    """a run of the house: mornings taken and refused; a refused one is not done, and the next is tried as the same day"""
-    mornings = [
-        morning([deal(0, 1, 0, 'pays 100 0'), deal(1, 2, 0, 'on 2: pays 7 0')]),
-        GOOD[:-1],
-        morning([deal(0, 1, 0, N)]),
-        morning([deal(0, 1, 1, 'nothung')]),
-        morning([deal(0, 1, 1, 'by 2: nothing')]),
-        morning([deal(0, 1, 1, 'pays 1 1')]),
-        morning([deal(0, 1, 1, N)]),
-        morning([deal(0, 1, 1, N)]),
-        morning() + b'\0',
-    ]
+    """a run of the house: what is paid when, and what is refused, as the model has it; the other judge must agree"""
     os.makedirs(os.path.join(folder, 'data'), exist_ok=True)
-    names, said, day, so_far = ['start'], [], 0, 0
-    open(os.path.join(folder, 'data', 'start'), 'wb').write(START)
-    for k, data in enumerate(mornings):
-        names.append('morning%d' % k)
+    names, day, so_far, refused = ['start'], 0, 0, []
+    open(os.path.join(folder, 'data', 'start'), 'wb').write(BOOK_START)
+    for k, data in enumerate(BOOK):
+        names.append('morning%02d' % k)
         open(os.path.join(folder, 'data', names[-1]), 'wb').write(data)
-        line = verdict('thin', START, day, so_far, data)
+        line = verdict('thin', BOOK_START, day, so_far, data)
         if line.startswith('taken'):
             day, so_far = day + 1, so_far + int(line.split()[1])
         else:
-            said.append(line)
+            refused.append(line)
+    said = model.run(BOOK_START, BOOK, True)
+    assert [line for line in said if line.startswith('refused')] == refused
     open(os.path.join(folder, 'args'), 'w').write('\n'.join(names) + '\n')
     open(os.path.join(folder, 'stdout'), 'w').write('\n'.join(said) + '\n')
 

@@ -1,11 +1,108 @@
-// Reads a start and mornings from the files that are named, and prints the refusal of each that is refused.
+// Reads a start and mornings from the files that are named, and prints what is paid on each day, and the refusal of each that is refused. With --time before them it reads all first, and prints one line alone: how long it took to take the mornings, how many days and deals there are then, and the sum of all payments.
 #![tactic(auto)]
 
-use anyhow::anyhow;
-use mornings::{Start, judge_morning, judge_start};
+ghost use Rattle.std.specs.Prelude.{◌≤◌};
+
+use anyhow::{anyhow, bail};
+use mornings::payments::{PAYMENT, read_payment};
+use mornings::{Start, judge_start};
+use settlement::{House, NotTaken};
+use std::alloc::{AllocError, Global};
 use std::env::Args;
-use std::{env, fs};
-use texts::stages::Stage;
+use std::io::{BufWriter, Write};
+use std::time::{Duration, Instant};
+use std::{env, fs, io};
+
+// What a house is lent: so many bytes for each deal, so many words for each rate, and so many to work in.
+const DEAL: usize = 16384;
+
+const RATE: usize = 4097;
+
+const WORK: usize = 131072;
+
+// A house has at most so many deals, and each takes at least so many bytes of its morning.
+const DEALS: usize = 65536;
+
+const SHORTEST: usize = 11;
+
+// A house, and the memory that is lent to it.
+#[derive(Drop)]
+struct Memory {
+    house: House,
+    deals: Vec<u8>,
+    rates: Vec<i64>,
+    work: Vec<u64>,
+    payments: Vec<u8>,
+    sums: Vec<u8>,
+}
+
+// What is said where memory runs out.
+fn no_memory(_e: AllocError) -> anyhow::Error {
+    anyhow!("out of memory")
+}
+
+// Makes it long enough for so many deals, with so many bytes each; the bytes that there are stay. The room doubles as it grows, so that few of them are ever copied, but for no more deals than a house may have.
+fn lengthen(bytes: &mut Vec<u8>, each: usize, deals: usize) -> anyhow::Result<()>
+    requires small { each ≤ 16384 }
+    requires few { deals ≤ 65536 }
+{
+    let n = bytes.len().max(each * deals);
+    if n > bytes.capacity() {
+        let room = n.max(bytes.capacity().saturating_mul(2).min(each * DEALS));
+        bytes.reserve_exact(room - bytes.len()).map_err(no_memory)?;
+    }
+    bytes.resize(n, 0).map_err(no_memory)
+}
+
+impl Memory {
+    // A house with no deals, and what it is lent whatever comes.
+    fn new(alloc: Global, start: Start) -> anyhow::Result<Memory> {
+        let rates = RATE * start.rates as usize;
+        Ok(Memory {
+            house: House::new(start),
+            deals: Vec::new(alloc),
+            rates: vec![in alloc; 0; rates].map_err(no_memory)?,
+            work: vec![in alloc; 0; WORK].map_err(no_memory)?,
+            payments: Vec::new(alloc),
+            sums: Vec::new(alloc),
+        })
+    }
+
+    // How many deals there are at most with a morning: as many more as its first two bytes say, but no more than it is long enough for, nor than a house may have.
+    fn deals_with(&self, bytes: &[u8]) -> usize
+        ensures { result ≤ 65536 }
+    {
+        let said = match bytes {
+            [low, high, ..] => u16::from_le_bytes([*low, *high]) as usize,
+            _ => 0,
+        };
+        let new = said.min(bytes.len() / SHORTEST);
+        (self.house.deals as usize + new).min(DEALS)
+    }
+
+    // Room for a morning. A payment for each deal and currency is always enough, and spares the house from counting pairs.
+    fn make_room(&mut self, bytes: &[u8]) -> anyhow::Result<()> {
+        let deals = self.deals_with(bytes);
+        let paid = PAYMENT * self.house.start.currencies as usize;
+        lengthen(&mut self.deals, DEAL, deals)?;
+        lengthen(&mut self.payments, paid, deals)?;
+        lengthen(&mut self.sums, paid, deals)
+    }
+
+    // Takes a morning: the payments of its day, 13 bytes each, or why it is not taken.
+    fn take(&mut self, bytes: &[u8]) -> Result<&[u8], NotTaken> {
+        let count = self.house.take(
+            bytes,
+            self.deals.as_mut_slice(),
+            self.rates.as_mut_slice(),
+            self.work.as_mut_slice(),
+            self.payments.as_mut_slice(),
+            self.sums.as_slice(),
+        )?;
+        let end = count.saturating_mul(PAYMENT);
+        Ok(self.payments.get(..end).unwrap_or(&[]))
+    }
+}
 
 // The bytes of a file. So in `plain`: of what a file gives a library could promise nothing.
 fn bytes_of(rt: &HostRuntime, name: &str) -> anyhow::Result<Vec<u8>> {
@@ -15,38 +112,98 @@ fn bytes_of(rt: &HostRuntime, name: &str) -> anyhow::Result<Vec<u8>> {
     }
 }
 
-// Mornings, one after the other. One that is refused is not done at all: the next is tried as the same day.
-fn mornings(rt: &HostRuntime, start: Start, names: Args) -> anyhow::Result<()> {
-    let mut day: u32 = 0;
-    let mut so_far: u32 = 0;
-    for name in names {
-        let bytes = bytes_of(rt, name.as_str())?;
-        match judge_morning(bytes.as_slice(), start, day, so_far, Stage::Thin) {
-            Ok(ends) => {
-                eprintln!(rt; "day {day}: nothing is paid yet")?;
-                day = day.saturating_add(1);
-                so_far = so_far.saturating_add(u32::from(ends.deals));
+// A morning: its payments, one to a line, or its refusal.
+fn morning(memory: &mut Memory, bytes: &[u8], out: &mut impl Write) -> anyhow::Result<()> {
+    memory.make_room(bytes)?;
+    let day = memory.house.day;
+    match memory.take(bytes) {
+        Ok(payments) => {
+            for bytes in payments.chunks_exact(PAYMENT) {
+                let payment = read_payment(bytes, 0);
+                writeln!(out, "day {day} {payment}")?;
             }
-            Err(e) => println!(rt; "{e}")?,
         }
+        Err(e) => writeln!(out, "{e}")?,
     }
     Ok(())
 }
 
+// Mornings, one after the other. One that is refused is not done at all: the next is tried as the same day.
+fn mornings(rt: &HostRuntime, start: Start, names: Args) -> anyhow::Result<()> {
+    let mut memory = Memory::new(rt.alloc(), start)?;
+    let mut out = BufWriter::new(rt.alloc(), io::writer(rt))?;
+    for name in names {
+        let bytes = bytes_of(rt, name.as_str())?;
+        morning(&mut memory, bytes.as_slice(), &mut out)?;
+    }
+    Ok(out.flush()?)
+}
+
 // The start, and then the mornings. So in `plain`: what is done with each morning differs.
-fn run(rt: &HostRuntime) -> anyhow::Result<()> {
-    let mut names = env::args(rt)?;
-    let _program = names.next();
-    let Some(name) = names.next() else {
-        return Err(anyhow!(format!(in rt.alloc(); "usage: house START MORNING...")?));
-    };
-    let bytes = bytes_of(rt, name.as_str())?;
+fn run(rt: &HostRuntime, first: &str, names: Args) -> anyhow::Result<()> {
+    let bytes = bytes_of(rt, first)?;
     match judge_start(bytes.as_slice()) {
         Ok(start) => mornings(rt, start, names),
         Err(e) => Ok(println!(rt; "{e}")?),
     }
 }
 
+// Takes a morning for which there is room: all that is paid on it, together, modulo 2^64; nothing where it is refused.
+fn paid_on(memory: &mut Memory, bytes: &[u8]) -> u64 {
+    let mut sum: u64 = 0;
+    for bytes in memory.take(bytes).unwrap_or(&[]).chunks_exact(PAYMENT) {
+        sum = sum.wrapping_add(read_payment(bytes, 0).amount);
+    }
+    sum
+}
+
+// Mornings after a start, with the clock. It stands still while the memory is made longer, since a house is lent it. The sum is printed as a number with sign.
+fn time_mornings(rt: &HostRuntime, start: Start, mornings: &[Vec<u8>]) -> anyhow::Result<()> {
+    let mut memory = Memory::new(rt.alloc(), start)?;
+    let mut spent = Duration::ZERO;
+    let mut sum: u64 = 0;
+    for bytes in mornings {
+        memory.make_room(bytes.as_slice())?;
+        let began = Instant::now(rt)?;
+        sum = sum.wrapping_add(paid_on(&mut memory, bytes.as_slice()));
+        spent = spent.saturating_add(began.elapsed(rt)?);
+    }
+    let ns = spent.as_nanos();
+    let House {
+        start: _,
+        day,
+        deals,
+    } = memory.house;
+    let sum = sum.cast_signed();
+    Ok(println!(rt; "{ns} ns, {day} days, {deals} deals, {sum}")?)
+}
+
+// The same as `run` with the clock: all files are read before.
+fn time(rt: &HostRuntime, names: Args) -> anyhow::Result<()> {
+    let mut files = Vec::new(rt.alloc());
+    for name in names {
+        files.push(bytes_of(rt, name.as_str())?)?;
+    }
+    let Some((first, mornings)) = files.split_first() else {
+        return usage();
+    };
+    match judge_start(first.as_slice()) {
+        Ok(start) => time_mornings(rt, start, mornings),
+        Err(e) => Ok(println!(rt; "{e}")?),
+    }
+}
+
+// How it is called.
+fn usage() -> anyhow::Result<()> {
+    bail!("usage: house [--time] START MORNING...")
+}
+
 fn main(rt: HostRuntime) -> anyhow::Result<()> {
-    run(&rt)
+    let mut names = env::args(&rt)?;
+    let _program = names.next();
+    match names.next() {
+        None => usage(),
+        Some(first) if first.as_str() == "--time" => time(&rt, names),
+        Some(first) => run(&rt, first.as_str(), names),
+    }
 }

@@ -1,0 +1,143 @@
+// Books of a house over lent slices, one to a line, in words. A word with commas says how long the slices are from then on: deals, rates, work, payments and sums, rates and work in words of eight bytes; behind these five comes the pattern that fills what is new. Of the others, in hexadecimal, the first is a start and each behind it a morning. Prints what each morning is answered, and whether all is as it was that must be. Lines that begin with # are printed as they are.
+#![tactic(auto)]
+
+use mornings::judge_start;
+use mornings::payments::PAYMENT;
+use settlement::House;
+use std::alloc::{AllocError, Global};
+
+// The lent slices.
+#[derive(Clone, PartialEq, Drop)]
+struct Lent {
+    deals: Vec<u8>,
+    rates: Vec<i64>,
+    work: Vec<u64>,
+    payments: Vec<u8>,
+    sums: Vec<u8>,
+}
+
+// What stands at a place before anything is written there.
+fn filling(pattern: usize, at: usize) -> u64 {
+    (at as u64)
+        .wrapping_add(pattern as u64)
+        .wrapping_mul(0x9e37_79b9_7f4a_7c15)
+}
+
+// Makes it just n bytes long.
+fn fit_bytes(bytes: &mut Vec<u8>, n: usize, pattern: usize) -> Result<(), AllocError> {
+    bytes.truncate(n);
+    for at in bytes.len()..n {
+        bytes.push((filling(pattern, at) >> 56) as u8)?;
+    }
+    Ok(())
+}
+
+// The number k of a list, 0 where there is none.
+fn number(list: &str, k: usize) -> usize {
+    match list.split(',').nth(k) {
+        Some(text) => text.parse::<usize>().unwrap_or(0),
+        None => 0,
+    }
+}
+
+impl Lent {
+    // None of them holds anything.
+    fn new(alloc: Global) -> Lent {
+        Lent {
+            deals: Vec::new(alloc),
+            rates: Vec::new(alloc),
+            work: Vec::new(alloc),
+            payments: Vec::new(alloc),
+            sums: Vec::new(alloc),
+        }
+    }
+
+    // Makes them just so long; what there is stays as far as there is room for it.
+    fn fit(&mut self, lengths: &str) -> Result<(), AllocError> {
+        let pattern = number(lengths, 5);
+        fit_bytes(&mut self.deals, number(lengths, 0), pattern)?;
+        let rates = number(lengths, 1);
+        self.rates.truncate(rates);
+        for at in self.rates.len()..rates {
+            self.rates.push(filling(pattern, at).cast_signed())?;
+        }
+        let work = number(lengths, 2);
+        self.work.truncate(work);
+        for at in self.work.len()..work {
+            self.work.push(filling(pattern, at))?;
+        }
+        fit_bytes(&mut self.payments, number(lengths, 3), pattern)?;
+        fit_bytes(&mut self.sums, number(lengths, 4), pattern)
+    }
+}
+
+// Whether nothing has changed, in words.
+fn kept(same: bool) -> &'static str {
+    if same { "as it was" } else { "changed" }
+}
+
+// A morning: how many payments there are and their bytes, and whether those behind them are as they were; or why it is not taken, and whether all is as it was.
+fn morning(
+    rt: &HostRuntime,
+    house: &mut House,
+    lent: &mut Lent,
+    bytes: &[u8],
+) -> anyhow::Result<()> {
+    let before = lent.clone()?;
+    let House { day, deals, .. } = *house;
+    let taken = house.take(
+        bytes,
+        lent.deals.as_mut_slice(),
+        lent.rates.as_mut_slice(),
+        lent.work.as_mut_slice(),
+        lent.payments.as_mut_slice(),
+        lent.sums.as_slice(),
+    );
+    match taken {
+        Ok(count) => {
+            let end = count.saturating_mul(PAYMENT);
+            let paid = hex::encode(rt.alloc(), lent.payments.get(..end).unwrap_or(&[]))?;
+            let rest = kept(lent.payments.get(end..) == before.payments.get(end..));
+            println!(rt; "{count} paid {paid}, the rest {rest}")?;
+        }
+        Err(e) => {
+            let same = house.day == day && house.deals == deals;
+            let all = kept(same && *lent == before);
+            println!(rt; "{e}, all {all}")?;
+        }
+    }
+    Ok(())
+}
+
+// A book: its words in order.
+fn book(rt: &HostRuntime, text: &str) -> anyhow::Result<()> {
+    let mut lent = Lent::new(rt.alloc());
+    let mut house: Option<House> = None;
+    for word in text.split_whitespace() {
+        if word.contains(',') {
+            lent.fit(word)?;
+            continue;
+        }
+        let bytes = hex::decode(rt.alloc(), word)?;
+        match &mut house {
+            Some(house) => morning(rt, house, &mut lent, bytes.as_slice())?,
+            None => match judge_start(bytes.as_slice()) {
+                Ok(start) => house = Some(House::new(start)),
+                Err(e) => println!(rt; "{e}")?,
+            },
+        }
+    }
+    Ok(())
+}
+
+fn main(rt: HostRuntime) -> anyhow::Result<()> {
+    for line in rt.lines(rt.alloc()) {
+        let line = line?;
+        if line.as_str().starts_with('#') {
+            println!(rt; "{}", line.as_str())?;
+        } else {
+            book(&rt, line.as_str())?;
+        }
+    }
+    Ok(())
+}
