@@ -23,7 +23,7 @@ const WORK: usize = 131072;
 // A house has at most so many deals, and each takes at least so many bytes of its morning.
 const DEALS: usize = 65536;
 
-const SHORTEST: usize = 11;
+const SHORTEST: usize = 17;
 
 // A house, and the memory that is lent to it.
 #[derive(Drop)]

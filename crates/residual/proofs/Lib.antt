@@ -6,5 +6,4 @@ pub mod Meaning
 pub mod Waking
 pub mod Laid
 pub mod Opening
-pub mod Made
 pub mod Behind

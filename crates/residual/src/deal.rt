@@ -7,7 +7,6 @@ ghost use Rattle.residual.specs.Steps.{state, woken};
 use crate::begin::{DEEP, begin, push_row};
 use crate::cells::{ROWS, Row, read_row, write_row};
 use crate::lay::lay;
-use std::array::from_fn;
 use texts::nodes::Node as Mark;
 
 // A deal's part of the lent bytes is as long as this.
@@ -56,16 +55,16 @@ pub fn open(part: &mut [u8], marks: &[Mark], from: u32) -> Summary
     }
 }
 
-// The first rows, by value; the others are of no account.
+// The first rows, by value; the others are of no account. Only these are written: a closure for `from_fn` would have to make all 96, at each deal that is woken.
 fn read_rows(part: &[u8; PART], count: usize) -> [Row; ROWS]
     requires { count ≤ 96 }
     ensures { take count result ≡ first_rows part.now count }
 {
-    from_fn(|k| if k < count {
-        read_row(part, k)
-    } else {
-        Row::default()
-    })
+    let mut rows = [Row::default(); ROWS];
+    for (k, row) in rows[..count].iter_mut().enumerate() {
+        *row = read_row(part, k);
+    }
+    rows
 }
 
 // The rows on day t, one after the other: those of the day begin, and those of days to come go on waiting.
