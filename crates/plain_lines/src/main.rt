@@ -1,22 +1,9 @@
 // Books from lines, as `plain` prints them: a line that begins with 00 is a start, one that begins with 01 a morning, each with its bytes in hexadecimal behind that; others are printed as they are.
 #![tactic(auto)]
 
-ghost use Rattle.std.specs.Prelude.{◌<◌};
-
 use anyhow::anyhow;
 use history::{History, NotTaken};
 use mornings::{Start, judge_start};
-
-// The worth of a hexadecimal digit, 0 for others. It and the loop over pairs of digits stand in `judge_lines` too: a program can't use another, and a library of these alone is no plainer.
-fn digit(b: u8) -> u8
-    ensures { result < 16 }
-{
-    match b {
-        b'0'..=b'9' => b - b'0',
-        b'a'..=b'f' => b - b'a' + 10,
-        _ => 0,
-    }
-}
 
 // A morning: what is paid, or its refusal, as `plain` prints them, by the same match: of what is printed a library could promise nothing.
 fn morning(rt: &HostRuntime, history: &mut History, bytes: &[u8]) -> anyhow::Result<()> {
@@ -42,18 +29,15 @@ fn begin(rt: &HostRuntime, bytes: &[u8]) -> anyhow::Result<History> {
 
 // A line: a start, a morning, or something else.
 fn line(rt: &HostRuntime, history: &mut History, text: &str) -> anyhow::Result<()> {
-    let mut bytes: Vec<u8> = Vec::new(rt.alloc());
-    for pair in text.as_bytes().chunks_exact(2) {
-        bytes.push(digit(pair[0]) * 16 + digit(pair[1]))?;
+    if !text.starts_with("00") && !text.starts_with("01") {
+        return Ok(println!(rt; "{text}")?);
     }
-    if text.starts_with("00") {
-        *history = begin(rt, bytes.as_slice().get(1..).unwrap_or(&[]))?;
-        return Ok(());
-    }
+    let bytes = hex::decode(rt.alloc(), text)?;
+    let rest = bytes.as_slice().get(1..).unwrap_or(&[]);
     if text.starts_with("01") {
-        return morning(rt, history, bytes.as_slice().get(1..).unwrap_or(&[]));
+        return morning(rt, history, rest);
     }
-    println!(rt; "{text}")?;
+    *history = begin(rt, rest)?;
     Ok(())
 }
 
