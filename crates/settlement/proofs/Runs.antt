@@ -215,7 +215,7 @@ goes_on st _ _ m' (takes {ms = ms} {ps = ps} {m = m} {sums = sums} {bytes = byte
           each_push st [] ms ps morning (record { count = n; bytes = m'.payments }) before.paid
           (paid_on st (ms ++ morning ∷ []) (subst StartFits start' rem.start) (subst (λ s. Fit thin s.houses s.rates s.currencies 0 (ms ++ morning ∷ [])) start' rem.fit) rem.in_time rem.few m.payments n m'.payments written);
     }
-goes_on st _ _ m' (refuses {ms = ms} {ps = ps} {m = m} run call) = subst (Goes st ms ps) (sym call.refused_all) (goes_on st ms ps m run)
+goes_on st _ _ m' (refuses {ms = ms} {ps = ps} {m = m} run call) = subst (Goes st ms ps) (sym call.unchanged) (goes_on st ms ps m run)
 goes_on st _ _ m' (lends {ms = ms} {ps = ps} {m = m} run alike) =
     let before = goes_on st ms ps m run in
     record { start = ap (λ h. h.start) alike.house ∙ before.start; remains = anything_else m m' ms alike before.remains; paid = before.paid }

@@ -77,9 +77,6 @@ pub record Took (m : Memory) (sums bytes : List ℕ) (n : ℕ) (m' : Memory) (ms
   pub paid : Written m.payments (net_payments m.house.start (ms ++ morning ∷ [])) n m'.payments
 
 -- what the public call answers, and what the memory then holds: where nothing is taken all of it is as it was, whatever it held
-abbrev pub Unchanged : Memory → Memory → Type 0
-Unchanged m m' = m' ≡ m
-
 pub record Takes (m : Memory) (sums bytes : List ℕ) (r : Result ℕ NotTaken) (m' : Memory) : Type 0 where
-  pub refused_all : MatchResult r (λ _. Unit {0}) (λ _. Unchanged m m')
+  pub unchanged : MatchResult r (λ _. Unit {0}) (λ _. m' ≡ m)
   pub answers : (ms : List Morning) → Remains m ms → MatchResult r (λ n. Took m sums bytes n m' ms) (λ e. Answer m.house.start ms bytes (lengths m sums) (refused (refusal_of e)))

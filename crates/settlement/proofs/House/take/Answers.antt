@@ -14,7 +14,7 @@ returns-in_err-parts c =
     let m = memory c.args.self.now c.args.deals.now c.args.rates.now c.args.work.now c.args.payments.now in
     rw (p.1, p.2)
     (record {
-      refused_all = refl {a = m};
+      unchanged = refl {a = m};
       answers = λ ms rem. refuses (on_the_day m ms c.args.bytes.now (refused (fault_of c.in_err-parts.field-0.0)) rem c.in_err-parts.ensures);
     })
 
@@ -26,7 +26,7 @@ returns-in_err-n c =
     let small : (k : ℕ) → get_or c.args.bytes.now k 0 < 256 = λ k. (c.type_inv.bytes k).fits in
     rw (p.1, p.2)
     (record {
-      refused_all = refl {a = m};
+      unchanged = refl {a = m};
       answers = λ ms rem.
           is_short (whole m ms rem c.args.bytes.now small c.in_ok-parts.parts judged.0 judged.1)
           (c.in_err-n.ensures.means _ (stand m ms rem c.args.bytes.now small c.in_ok-parts.parts judged.0 judged.1) (few_all m ms rem c.args.bytes.now small c.in_ok-parts.parts judged.0 judged.1));
@@ -40,7 +40,7 @@ returns c =
     let parts = c.in_ok-parts.parts in
     let room = c.in_ok-n.ensures.safe in
     record {
-      refused_all = tt;
+      unchanged = tt;
       answers = λ ms rem.
           let long = c.in_ok-n.ensures.means _ (stand m ms rem c.args.bytes.now small parts judged.0 judged.1) (few_all m ms rem c.args.bytes.now small parts judged.0 judged.1) in
           record {
