@@ -1,5 +1,5 @@
 -- What a part does that begins, by the model of what is left.
-use Rattle.std.proofs.Common.{◌≡◌, ℕ, suc, ◌+◌, ◌-◌, ◌<◌, ◌≤◌, eqb, ltb, List, [], ◌∷◌, ◌++◌, length, get_or, pos, ◌+ℤ◌, sym, refl, ap, ◌∙◌, subst, inl, inr, ⊎_elim, arith, w64}
+use Rattle.std.proofs.Common.{◌≡◌, ℕ, suc, ◌+◌, ◌-◌, ◌<◌, ◌≤◌, min, max, eqb, ltb, List, [], ◌∷◌, ◌++◌, length, get_or, pos, ◌+ℤ◌, sym, refl, ap, ◌∙◌, subst, inl, inr, ⊎_elim, arith, w64}
 use Rattle.std.specs.Int.{int_wrap}
 use Rattle.std.proofs.lemmas.List.{append-nil, append_assoc, length-append}
 use Rattle.std.proofs.lemmas.Int.{ints, int_wrap-add_same}
@@ -187,8 +187,10 @@ begun_right {i = i} {e = e} (is_both {q = q} {x = x} {y = y} h one other) n p es
       few_entries = fits.few_entries;
       stand = first.stand;
     }) in
+    let between : max (min q e) (i + 1) ≡ q = omega (arith, stands_long one, stands_long other) in
     subst (StepsTo st slots (kept_joined k l))
-    (sym (step_is m n.number i e j st (begun (m - 1) n.number q e j st₁) (node.Both q) (omega (arith, stands_long one, stands_long other)) (omega (arith, stands_long one, stands_long other)) (same i ∙ h) refl))
+    (sym (step_is m n.number i e j st (begun (m - 1) n.number q e j st₁) (node.Both q) (omega (arith, stands_long one, stands_long other)) (omega (arith, stands_long one, stands_long other)) (same i ∙ h)
+    (ap (λ z. begun (m - 1) n.number z e j (begun (m - 1) n.number (i + 1) z j st)) between)))
     (steps_both st st₁ (begun (m - 1) n.number q e j st₁) slots k l first second)
 begun_right {i = i} {e = e} (is_on_day {d = d} {x = x} h small under) n p es j slots st m same end deep fits =
     let t = n.number in

@@ -75,3 +75,11 @@ abbrev pub Opens : ℕ → List Mark → Summary → List ℕ → List ℕ → T
 Opens from marks k s s' =
     (x : Contract) (rs cs : ℕ) → marks ≡ nodes_of x → ContractFits rs cs x → cs ≤ 65536 → thin x ≡ true → from < 65536 → 12288 ≤ length s →
     Holds s' k [] (record { entry = 0; way = []; waits = starts from x } ∷ [])
+
+-- nothing is opened: nothing waits, and the part is as it was
+abbrev pub OpensNone : Summary → List ℕ → List ℕ → Type 0
+OpensNone k s s' = (k ≡ record { wake = 65536; rows = 0; used = 0 }) × (s' ≡ s)
+
+-- nothing is woken: all is as it was
+abbrev pub WakesNone : Summary → Summary → List ℕ → List ℤ → List ℕ → List ℤ → Type 0
+WakesNone k k' s due s' due' = (k' ≡ k) × (s' ≡ s) × (due' ≡ due)

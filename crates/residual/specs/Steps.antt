@@ -1,5 +1,5 @@
 -- What the code does to a deal's part, step by step, as definitions: a part of the contract begins, rows wake. What that means is said in Deal. Assumes nothing.
-use Rattle.std.specs.Prelude.{ℕ, zero, suc, ◌+◌, min, List, [], ◌∷◌, length, ℤ, pos, ◌+ℤ◌, neg_ℤ, ◌==◌, nat_lt, Some, None, Option, slice_index_or, slice_set}
+use Rattle.std.specs.Prelude.{ℕ, zero, suc, ◌+◌, min, max, List, [], ◌∷◌, length, ℤ, pos, ◌+ℤ◌, neg_ℤ, ◌==◌, nat_lt, Some, None, Option, slice_index_or, slice_set}
 use Rattle.std.specs.Int.{int_wrap, w64}
 use Rattle.deals.specs.Contract.{pick}
 use Rattle.residual.specs.declared.cells.Row.{Row}
@@ -49,12 +49,13 @@ with_turn st over =
       due = st.due;
     }
 
--- what a node does on day t, by what the parts under it do: it stands at place i, its part ends at place e, and j is the entry of what stands above it
+-- what a node does on day t, by what the parts under it do: it stands at place i, its part ends at place e, and j is the entry of what stands above it. Of two parts the
+-- second is kept between the ends, so that parts lie side by side whatever the bytes are
 unfoldable pub by_node : (ℕ → ℕ → ℕ → State → State) → ℕ → ℕ → ℕ → ℕ → State → Node → State
 by_node go t i e j st Nothing = st
 by_node go t i e j st (Pays k a) = record { bytes = st.bytes; left = st.left; due = with_due st.due k (seen_through 256 st.bytes j a) }
 by_node go t i e j st Turned = pick (nat_lt st.left.used 255) (go (i + 1) e (st.left.used + 1) (with_turn st j)) st
-by_node go t i e j st (Both q) = go q e j (go (i + 1) q j st)
+by_node go t i e j st (Both q) = let second = max (min q e) (i + 1) in go second e j (go (i + 1) second j st)
 by_node go t i e j st (OnDay d) =
     pick (nat_lt t d) (with_row st (record { day = d; part = i + 1; end = e; above = j })) (pick (t == d) (go (i + 1) e j st) st)
 

@@ -47,7 +47,7 @@ pub(crate) fn push_row(part: &mut [u8; PART], left: &mut Summary, row: Row)
     }
 }
 
-// The part of a row begins on the row's day; at most n deep. Parts under it take places of their own between its ends, so it looks at each place once.
+// The part of a row begins on the row's day; at most n deep. Parts under it take places of their own between its ends, whatever the bytes are, so it looks at each place once.
 #[tactic(auto, using(crate::proofs::Unroll::begun_steps), unfolding(crate::specs::Steps::by_node, crate::specs::Steps::with_turn))]
 pub(crate) fn begin(part: &mut [u8; PART], n: usize, row: Row, left: &mut Summary, due: &mut [i64])
     ensures { state part.new left.new due.new ≡ begun n row.day row.part row.end row.above (state part.old left.old due.old) }
@@ -73,10 +73,29 @@ pub(crate) fn begin(part: &mut [u8; PART], n: usize, row: Row, left: &mut Summar
                 begin(part, n - 1, Row { above, ..next }, left, due);
             }
         }
-        // The second part begins where the first ends.
-        Node::Both(end) => {
-            begin(part, n - 1, Row { end, ..next }, left, due);
-            begin(part, n - 1, Row { part: end, ..row }, left, due);
+        // The second part begins where the first ends; where that lies outside, as it may in bytes that are no contract's, at the nearest place that doesn't.
+        Node::Both(second) => {
+            let second = second.min(row.end).max(next.part);
+            begin(
+                part,
+                n - 1,
+                Row {
+                    end: second,
+                    ..next
+                },
+                left,
+                due,
+            );
+            begin(
+                part,
+                n - 1,
+                Row {
+                    part: second,
+                    ..row
+                },
+                left,
+                due,
+            );
         }
         Node::OnDay(day) => {
             if row.day < day {

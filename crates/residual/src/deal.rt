@@ -1,6 +1,6 @@
 // A deal's part of the lent bytes: it is opened with its contract, and woken on a day.
-ghost use Rattle.std.specs.Prelude.{◌≡◌, ◌≤◌, take};
-ghost use Rattle.residual.specs.Deal.{Opens, Wakes};
+ghost use Rattle.std.specs.Prelude.{◌≡◌, ◌<◌, ◌≤◌, length, take};
+ghost use Rattle.residual.specs.Deal.{Opens, OpensNone, Wakes, WakesNone};
 ghost use Rattle.residual.specs.Layout.{first_rows};
 ghost use Rattle.residual.specs.Steps.{state, woken};
 
@@ -27,9 +27,11 @@ const NOTHING: Summary = Summary {
     used: 0,
 };
 
-// A deal that is new, by its contract's marks: it waits for the day on which it begins. What can be no deal is left as it is, with nothing to wait for.
+// A deal that is new, by its contract's marks: it waits for the day on which it begins. Where there are too many marks, or the part is too short, it is left as it is, with nothing to wait for.
 pub fn open(part: &mut [u8], marks: &[Mark], from: u32) -> Summary
-    ensures { Opens from marks.now result part.old part.new }
+    ensures opens { Opens from marks.now result part.old part.new }
+    ensures many { 256 < length marks.now → OpensNone result part.old part.new }
+    ensures short { length part.old < 12288 → OpensNone result part.old part.new }
 {
     if marks.len() > DEEP {
         return NOTHING;
@@ -83,9 +85,11 @@ fn wake_rows(part: &mut [u8; PART], rows: &[Row], t: u32, left: &mut Summary, du
     }
 }
 
-// A deal on day t: what is due is added up, and its part holds what is then left. What can be no deal is left as it is.
+// A deal on day t: what is due is added up, and its part holds what is then left. Where there are too many rows, or the part is too short, all is left as it is.
 pub fn wake(part: &mut [u8], kept: Summary, t: u32, due: &mut [i64]) -> Summary
-    ensures { Wakes t kept result part.old due.old part.new due.new }
+    ensures wakes { Wakes t kept result part.old due.old part.new due.new }
+    ensures many { 96 < kept.rows → WakesNone kept result part.old due.old part.new due.new }
+    ensures short { length part.old < 12288 → WakesNone kept result part.old due.old part.new due.new }
 {
     let count = kept.rows as usize;
     if count > ROWS {

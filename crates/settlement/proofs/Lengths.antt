@@ -42,23 +42,25 @@ pairs_few dd = omega (arith, different_few (map deal_pair dd), length-map dd dea
 
 -- the walk through the slices, as far as each answer
 module _ (st : Start) (s : List ℕ) (first : ℕ) (bytes : List ℕ) (new : ℕ) (lent : Lengths) where
-  pub no_deals : lent.deals < 16384 * (first + new) → Measures st s first bytes new lent (Err Deals)
-  no_deals short =
+  pub few_bytes : lent.deals < 16384 * (first + new) → Measures st s first bytes new lent (Err Deals)
+  few_bytes short =
       record {
         safe = tt;
+        no_deals = λ less. refl;
         means = λ dd p few.
             let many = deals_many s first bytes new dd p in
             record { short = omega (arith, many, short); before = each_below (wanted st dd) lent 0 (λ lt. absurd (omega arith)) (λ lt. absurd (omega arith)) (λ lt. absurd (omega arith)) (λ lt. absurd (omega arith)) (λ lt. absurd (omega arith)) };
       }
 
   pub too_many : 65536 < first + new → Measures st s first bytes new lent (Err Deals)
-  too_many more = record { safe = tt; means = λ dd p few. let many = deals_many s first bytes new dd p in absurd (omega (arith, many, more, few)) }
+  too_many more = record { safe = tt; no_deals = λ less. refl; means = λ dd p few. let many = deals_many s first bytes new dd p in absurd (omega (arith, many, more, few)) }
 
   module _ (deals : 16384 * (first + new) ≤ lent.deals) where
     pub no_rates : lent.rates < 4097 * st.rates → Measures st s first bytes new lent (Err Rates)
     no_rates short =
         record {
           safe = tt;
+          no_deals = λ less. absurd (omega (arith, less, deals));
           means = λ dd p few.
               let many = deals_many s first bytes new dd p in
               record { short = short; before = each_below (wanted st dd) lent 1 (λ lt. omega (arith, many, deals)) (λ lt. absurd (omega arith)) (λ lt. absurd (omega arith)) (λ lt. absurd (omega arith)) (λ lt. absurd (omega arith)) };
@@ -69,6 +71,7 @@ module _ (st : Start) (s : List ℕ) (first : ℕ) (bytes : List ℕ) (new : ℕ
       no_work short =
           record {
             safe = tt;
+            no_deals = λ less. absurd (omega (arith, less, deals));
             means = λ dd p few.
                 let many = deals_many s first bytes new dd p in
                 record { short = short; before = each_below (wanted st dd) lent 2 (λ lt. omega (arith, many, deals)) (λ lt. rates) (λ lt. absurd (omega arith)) (λ lt. absurd (omega arith)) (λ lt. absurd (omega arith)) };
@@ -88,6 +91,7 @@ module _ (st : Start) (s : List ℕ) (first : ℕ) (bytes : List ℕ) (new : ℕ
         room_for_all least is enough =
             record {
               safe = has_room;
+              no_deals = λ less. absurd (omega (arith, less, deals));
               means = λ dd p few.
                   let most = mul-le (pair_count dd) st.currencies (first + new) st.currencies (omega (arith, pairs_few dd, deals_many s first bytes new dd p)) (omega arith) in
                   long dd p (omega (arith, is, enough, most)) (omega (arith, is, enough, most));
@@ -102,6 +106,7 @@ module _ (st : Start) (s : List ℕ) (first : ℕ) (bytes : List ℕ) (new : ℕ
           no_payments short =
               record {
                 safe = tt;
+                no_deals = λ less. absurd (omega (arith, less, deals));
                 means = λ dd p few.
                     let many = deals_many s first bytes new dd p in
                     record {
@@ -118,6 +123,7 @@ module _ (st : Start) (s : List ℕ) (first : ℕ) (bytes : List ℕ) (new : ℕ
             no_sums short =
                 record {
                   safe = tt;
+                  no_deals = λ less. absurd (omega (arith, less, deals));
                   means = λ dd p few.
                       let many = deals_many s first bytes new dd p in
                       record {
@@ -130,5 +136,6 @@ module _ (st : Start) (s : List ℕ) (first : ℕ) (bytes : List ℕ) (new : ℕ
             all_long sums =
                 record {
                   safe = has_room;
+                  no_deals = λ less. absurd (omega (arith, less, deals));
                   means = λ dd p few. long dd p (enough dd few p) (subst (λ n. 13 * (n * st.currencies) ≤ lent.sums) (pairs_is dd few p) sums);
                 }

@@ -1,22 +1,24 @@
 -- Whole runs: what stays in the memory from morning to morning, and what was paid on each.
-use Rattle.std.proofs.Common.{◌≡◌, ℕ, ◌*◌, ◌<◌, ◌≤◌, List, [], ◌∷◌, ◌++◌, map, length, take, drop, ℤ, pos, sym, refl, ap, ◌∙◌, subst, ⊎_elim, arith}
+use Rattle.std.proofs.Common.{◌≡◌, ℕ, ◌+◌, get_or, ◌%◌, ◌*◌, ◌<◌, ◌≤◌, List, [], ◌∷◌, ◌++◌, map, length, take, drop, ℤ, pos, sym, refl, ap, ◌∙◌, subst, ⊎_elim, arith}
 use Rattle.std.specs.List.{AllByRecursion}
 use Rattle.std.proofs.ByRecursion.{All-get_or, All-weaker, All-map}
 use Rattle.std.proofs.Math.Seq.{take-append_seam}
 use Rattle.std.proofs.lemmas.Simd.{map-map}
 use Rattle.std.proofs.lemmas.List.{append_assoc, map-id}
-use Rattle.deals.specs.Contract.{Morning, net, all_days, all_deals}
+use Rattle.deals.specs.Contract.{Day, Morning, net, all_days, all_deals}
 use Rattle.deals.specs.Promise.{Fit, thin, ThinBuilt, WithinLimit, size}
 use Rattle.deals.specs.House.{House, pays_now}
 use Rattle.deals.specs.Payments.{Payment, TruePayment, paid, payments}
 use Rattle.deals.proofs.House.{DealFits, house_pays, house_same_paid, length_all_days}
 use Rattle.deals.proofs.Payments.{payments_in_order_lem, paid_two_sided}
+use Rattle.deals.proofs.Later.{later_mornings_lem}
 use Rattle.deals.proofs.Short.{deals_fit, rates_fit, paid_within_lem, sums_short_lem}
 use Rattle.deals.proofs.Sizes.{size_is, within_limit_lem}
 use Rattle.texts.specs.declared.stages.Stage.TheVariants.{Thin}
 use Rattle.mornings.specs.declared.Start.{Start}
 use Rattle.mornings.specs.Verdict.{Fault, fault, Verdict, taken, refused}
 use Rattle.mornings.specs.Judgement.{MorningRead}
+use Rattle.mornings.specs.declared.payments.Payment.{Payment as MorningPayment}
 use Rattle.mornings.specs.Payments.{PaymentFits, paid_as, payments_bytes, payments_in}
 use Rattle.mornings.specs.Pairs.{as_bytes, net_payments, Written}
 use Rattle.mornings.specs.Written.{StartFits}
@@ -29,11 +31,13 @@ use Rattle.settlement.specs.declared.room.Lengths.{Lengths}
 use Rattle.settlement.specs.Room.{slice_number, wanted, FirstShort}
 use Rattle.mornings.proofs.Verdicts.{one_verdict}
 use Rattle.std.proofs.lemmas.Bool.{cases_lt}
+use Rattle.std.proofs.lemmas.Nat.{mul-le}
+use Rattle.fixings.specs.Fixings.{HoldsRates}
 use Rattle.settlement.specs.Directory.{entry_of, part_of}
 use Rattle.settlement.specs.Keeping.{Keeps}
 use Rattle.settlement.specs.Remains.{Memory, memory, new_house, left_of, Remains, Answer, Took}
 use Rattle.settlement.specs.Remains as answer
-use Rattle.settlement.specs.Runs.{OneAnswer, Alike, Paying, Run, begins, takes, refuses, lends, PaidOn, PaidEach, NoneRemains, AnythingElse, RunsPay, RunsWithin, ModelPays}
+use Rattle.settlement.specs.Runs.{OneAnswer, Alike, PaysTheSame, RunsLater, Paying, Run, begins, takes, refuses, lends, PaidOn, PaidEach, NoneRemains, AnythingElse, RunsPay, RunsWithin, ModelPays}
 use Rattle.settlement.proofs.Taking.{numbers, net_lines}
 
 -- WHAT THE MEMORY HOLDS
@@ -48,8 +52,7 @@ none_holds st deals rates work payments fits =
       in_time = omega arith;
       many = refl;
       few = omega arith;
-      long = omega arith;
-      left = λ c lt. absurd (omega arith);
+      left = λ long c lt. absurd (omega arith);
       rates = λ long. record { long = long; rates = λ d k lt near in-day. absurd (omega arith) };
     }
 
@@ -72,6 +75,15 @@ keeps_else s s' c h entry part k =
           });
     }
 
+rates_else : (words words' : List ℤ) (n : ℕ) (ds : List Day) → 4097 * n ≤ length words' → ((i : ℕ) → i < 4097 * n → get_or words' i (pos 0) ≡ get_or words i (pos 0)) → HoldsRates words n ds → HoldsRates words' n ds
+rates_else words words' n ds long same h =
+    record {
+      long = long;
+      rates = λ d k lt near coin.
+          let row = mul-le (d % 4097) n 4096 n (omega arith) (omega arith) in
+          same (d % 4097 * n + k) (omega (arith, row, coin)) ∙ h.rates d k lt near coin;
+    }
+
 else_holds : (m m' : Memory) (ms : List Morning) → Alike m m' → Remains m ms → Remains (record { house = m.house; deals = m'.deals; rates = m'.rates; work = m'.work; payments = m'.payments }) ms
 else_holds m m' ms a r =
     record {
@@ -81,16 +93,24 @@ else_holds m m' ms a r =
       in_time = r.in_time;
       many = r.many;
       few = r.few;
-      long = omega (arith, a.long, r.many);
-      left = λ c lt.
-          let below : c < m.house.deals = omega (arith, lt, r.many) in keeps_else m.deals m'.deals c _ (a.entries c below) (a.parts c below) (r.left c lt);
-      rates = λ long. rw a.rates (r.rates (rw a.rates at long));
+      left = λ long c lt.
+          let same = a.deals (omega (arith, long, r.many)) in
+          let below : c < m.house.deals = omega (arith, lt, r.many) in
+          keeps_else m.deals m'.deals c _ (same.entries c below) (same.parts c below) (r.left (omega (arith, same.long, r.many)) c lt);
+      rates = λ long.
+          ⊎_elim (λ (some : 0 < m.house.day). let same = a.rates some long in rates_else m.rates m'.rates m.house.start.rates (all_days ms) long (same.same) (r.rates same.long))
+          (λ none. record { long = long; rates = λ d k lt near coin. absurd (omega (arith, lt, none, r.days, length_all_days ms)) }) (cases_lt 0 m.house.day);
     }
 
 pub anything_else : AnythingElse
 anything_else m m' ms a r = subst (λ h. Remains (record { house = h; deals = m'.deals; rates = m'.rates; work = m'.work; payments = m'.payments }) ms) (sym a.house) (else_holds m m' ms a r)
 
 -- WHAT IS PAID ON A DAY
+
+-- what stands at the front of the bytes
+paid_front : (was : List ℕ) (ps : List MorningPayment) (n : ℕ) (s : List ℕ) → Written was ps n s → take (13 * n) s ≡ payments_bytes ps
+paid_front was ps n s w =
+    ap (take (13 * n)) w.bytes ∙ ap (λ k. take k (payments_bytes ps ++ drop (13 * n) was)) (ap (λ k. 13 * k) w.count ∙ sym (length_bytes ps)) ∙ take-append_seam (payments_bytes ps) (drop (13 * n) was)
 
 same_again : (ps : List Payment) → map paid_as (map as_bytes ps) ≡ ps
 same_again ps = map-map paid_as as_bytes ps ∙ map-id ps
@@ -129,10 +149,7 @@ module _ (st : Start) (ms : List Morning) (start : StartFits st) (fit : Fit thin
 
   pub paid_on : (was : List ℕ) (n : ℕ) (bytes : List ℕ) → Written was (net_payments st ms) n bytes → PaidOn st ms (record { count = n; bytes = bytes })
   paid_on was n bytes w =
-      let front : take (13 * n) bytes ≡ payments_bytes (net_payments st ms) =
-      ap (take (13 * n)) w.bytes
-      ∙ ap (λ k. take k (payments_bytes (net_payments st ms) ++ drop (13 * n) was)) (ap (λ k. 13 * k) w.count ∙ sym (length_bytes (net_payments st ms)))
-      ∙ take-append_seam (payments_bytes (net_payments st ms)) (drop (13 * n) was) in
+      let front = paid_front was (net_payments st ms) n bytes w in
       record {
         count = w.count;
         bytes = front;
@@ -222,6 +239,37 @@ goes_on st _ _ m' (lends {ms = ms} {ps = ps} {m = m} run alike) =
 
 pub runs_pay : RunsPay
 runs_pay st ms ps m run = let g = goes_on st ms ps m run in (g.remains, g.paid)
+
+-- what was paid on one of the days
+paid_then : (st : Start) (done ms later : List Morning) (ps qs : List Paying) (p : Paying) → PaidEach st done (ms ++ later) (ps ++ p ∷ qs) → length ps + 1 ≡ length ms → PaidOn st (done ++ ms) p
+unfolding PaidEach
+paid_then st done [] later ps qs p each many = absurd (omega (arith, many))
+paid_then st done (m ∷ []) later [] qs p each many = each.0
+paid_then st done (m ∷ (k ∷ ms)) later [] qs p each many = absurd (omega (arith, many))
+paid_then st done (m ∷ ms) later (q ∷ ps) qs p each many =
+    subst (λ z. PaidOn st z p) (append_assoc done (m ∷ []) ms) (paid_then st (done ++ m ∷ []) ms later ps qs p each.1 (omega (arith, many)))
+
+pub runs_later : RunsLater
+runs_later st ms later ps qs p m k a b run many coin payer payee apart =
+    let g = goes_on st (ms ++ later) (ps ++ p ∷ qs) m run in
+    let fit = subst (λ s. Fit thin s.houses s.rates s.currencies 0 (ms ++ later)) g.start g.remains.fit in
+    (paid_then st [] ms later ps qs p g.paid many).says k a b coin payer payee apart
+    ∙ sym (later_mornings_lem thin st.houses st.rates st.currencies k a b ms later fit (omega (arith, many)))
+
+-- a morning that is taken from memory that says the same is paid in the same bytes
+pub pays_the_same : PaysTheSame
+pays_the_same m n m' n' ms sums sums' bytes i j alike rem first second =
+    let a : Took m sums bytes i m' ms = first.answers ms rem in
+    let b : Took n sums' bytes j n' ms = second.answers ms (anything_else m n ms alike rem) in
+    let start : n.house.start ≡ m.house.start = ap (λ h. h.start) alike.house in
+    let same : b.morning ≡ a.morning =
+    never_same.0 Thin m.house.start (length ms) (length (all_deals ms)) b.morning a.morning bytes (length bytes) (length bytes)
+    (subst (λ s. MorningRead Thin s (length ms) (length (all_deals ms)) bytes 0 (taken b.morning (length bytes))) start (read_of b.answer)) (read_of a.answer) in
+    let paid : net_payments n.house.start (ms ++ b.morning ∷ []) ≡ net_payments m.house.start (ms ++ a.morning ∷ []) = λ t. net_payments (start t) (ms ++ same t ∷ []) in (
+      a.paid.count ∙ sym (ap length paid) ∙ sym b.paid.count,
+      paid_front m.payments (net_payments m.house.start (ms ++ a.morning ∷ [])) i m'.payments a.paid
+          ∙ sym (ap payments_bytes paid) ∙ sym (paid_front n.payments (net_payments n.house.start (ms ++ b.morning ∷ [])) j n'.payments b.paid),
+    )
 
 pub runs_within : RunsWithin
 unfolding DealFits WithinLimit

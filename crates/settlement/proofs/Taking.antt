@@ -1,5 +1,6 @@
 -- One morning more: what the lent memory holds after it, by what it held before.
-use Rattle.std.proofs.Common.{◌≡◌, ℕ, suc, ◌+◌, ◌*◌, ◌<◌, ◌≤◌, min, List, [], ◌∷◌, ◌++◌, map, length, get_or, ℤ, pos, sym, refl, ap, ◌∙◌, subst, add-zero, arith}
+use Rattle.std.proofs.Common.{◌≡◌, ℕ, Result, Err, ⊎_elim, suc, ◌+◌, ◌*◌, ◌<◌, ◌≤◌, min, List, [], ◌∷◌, ◌++◌, map, length, get_or, ℤ, pos, sym, refl, ap, ◌∙◌, subst, add-zero, arith}
+use Rattle.std.proofs.lemmas.Bool.{cases_lt}
 use Rattle.std.specs.List.{AllByRecursion}
 use Rattle.std.proofs.ByRecursion.{All-append}
 use Rattle.std.proofs.lemmas.Simd.{map-map}
@@ -33,7 +34,10 @@ use Rattle.settlement.specs.Opening.{OpensAll}
 use Rattle.settlement.specs.Settled.{KeptToday, Bounded, Settled, Settles}
 use Rattle.settlement.proofs.Writing.{to_shared}
 use Rattle.settlement.proofs.Opened.{taken_many}
-use Rattle.settlement.specs.Remains.{Memory, left_of, Remains}
+use Rattle.settlement.specs.declared.room.Lent.{Lent}
+use Rattle.settlement.specs.declared.room.Lent.TheVariants.{Deals}
+use Rattle.settlement.specs.Room.{wanted, FirstShort, Measures}
+use Rattle.settlement.specs.Remains.{Memory, left_of, Remains, lengths}
 
 -- MORNINGS IN BOUNDS
 
@@ -83,6 +87,9 @@ pub on_the_day : (mem : Memory) (ms : List Morning) (bytes : List ℕ) (v : Verd
 on_the_day mem ms bytes v rem read =
     subst (λ d. MorningRead Thin mem.house.start d (length (all_deals ms)) bytes 0 v) rem.days (subst (λ n. MorningRead Thin mem.house.start mem.house.day n bytes 0 v) rem.many read)
 
+same_err : (s t : Lent) → ◌≡◌ {A = Result ℕ Lent} (Err s) (Err t) → s ≡ t
+same_err s t h = cc
+
 -- A MORNING THAT WAS JUDGED
 module _ (mem : Memory) (ms : List Morning) (rem : Remains mem ms) (bytes : List ℕ) (small : (k : ℕ) → get_or bytes k 0 < 256) (parts : Ends) (m : Morning) (laid : LaidOut Thin mem.house.start mem.house.day mem.house.deals bytes parts m) where
   abbrev pub st : Start
@@ -107,28 +114,37 @@ module _ (mem : Memory) (ms : List Morning) (rem : Remains mem ms) (bytes : List
   few_all = omega (arith, many_all, rem.many, come, one_row m, fits.1)
 
   -- each deal that is kept has its own houses
-  kept_houses : (c : ℕ) → c < mem.house.deals → EntryStands mem.deals c (get_or (all_deals ms) c nobodys)
+  kept_houses : 16384 * length (all_deals ms) ≤ length mem.deals → (c : ℕ) → c < mem.house.deals → EntryStands mem.deals c (get_or (all_deals ms) c nobodys)
   unfolding kept_deal
-  kept_houses c lt =
+  kept_houses long c lt =
       let below : c < length (all_deals ms) = omega (arith, rem.many) in
-      let k = rem.left c below in
+      let k = rem.left long c below in
       let is = (kept_is thin st.houses st.rates st.currencies ms rem.fit).1 c nobodys below in
       record { holder = k.holder ∙ ap (λ h. h.holder) is; other = k.other ∙ ap (λ h. h.other) is }
 
-  pub stand : PairsStand mem.deals mem.house.deals bytes parts.deals (all_deals (ms ++ m ∷ []))
-  stand =
+  pub stand : 16384 * length (all_deals ms) ≤ length mem.deals → PairsStand mem.deals mem.house.deals bytes parts.deals (all_deals (ms ++ m ∷ []))
+  stand long =
       record {
         old = all_deals ms;
         later = m.deals;
         parts = all_deals_push ms m;
         many = sym rem.many;
         inside = all_inside st.houses st.rates st.currencies 0 (ms ++ m ∷ []) rem.start.houses fit_all;
-        kept = kept_houses;
+        kept = kept_houses long;
         start = st;
         day = mem.house.day;
         to = parts.rates_at;
         come = laid.deals;
       }
+
+  -- which slice is the first that is too short: that of the deals, whatever it holds, or one by the pairs that stand there
+  pub first_short : (sums : List ℕ) (s : Lent) → Measures mem.house.start mem.deals mem.house.deals bytes parts.deals (lengths mem sums) (Err s) → FirstShort (wanted mem.house.start (all_deals (ms ++ m ∷ []))) (lengths mem sums) s
+  first_short sums s h =
+      ⊎_elim
+      (λ (less : length mem.deals < 16384 * (mem.house.deals + parts.deals)).
+      subst (FirstShort (wanted mem.house.start (all_deals (ms ++ m ∷ []))) (lengths mem sums)) (sym (same_err s Deals (h.no_deals less)))
+      (record { short = omega (arith, less, many_all); before = λ r lt. absurd (omega (arith, lt)) }))
+      (λ enough. h.means (all_deals (ms ++ m ∷ [])) (stand (omega (arith, enough, rem.many))) few_all) (cases_lt (length mem.deals) (16384 * (mem.house.deals + parts.deals)))
 
   -- what the morning makes of the model's house
   after_is : happens (left_of st ms) m ≡ left_of st (ms ++ m ∷ [])
@@ -167,7 +183,7 @@ module _ (mem : Memory) (ms : List Morning) (rem : Remains mem ms) (bytes : List
           long = omega (arith, long, same₁);
           keeps = λ c lt.
               opens mem.house.day m.deals parts.rates_at (left_of st ms).held rem.start.currencies laid.deals (early st.houses st.rates st.currencies (length ms) m fits.0) (held_many ∙ sym rem.many)
-              (λ d below. rem.left d (omega (arith, rem.many))) c (omega (arith, n_is));
+              (λ d below. rem.left (omega (arith, n_is, long, rem.many)) d (omega (arith, rem.many))) c (omega (arith, n_is));
         }
 
     paid_few : 13 * length (payments (happens (left_of st ms) m)) ≤ length mem.payments
@@ -203,7 +219,6 @@ module _ (mem : Memory) (ms : List Morning) (rem : Remains mem ms) (bytes : List
           in_time = omega (arith, length-append ms (m ∷ []), fits.2);
           many = n_is ∙ sym many_all;
           few = few_all;
-          long = omega (arith, many_all, n_is, long, same₁, same₂);
-          left = λ c lt. subst (λ h. Keeps deals₂ c (get_or h.held c gone)) after_is (settled.keeps c (omega (arith, many_all, n_is)));
+          left = λ enough c lt. subst (λ h. Keeps deals₂ c (get_or h.held c gone)) after_is (settled.keeps c (omega (arith, many_all, n_is)));
           rates = λ enough. rates_all;
         }

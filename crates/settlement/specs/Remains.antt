@@ -44,7 +44,7 @@ new_house st = record { start = st; day = 0; deals = 0 }
 abbrev pub left_of : Start → List Morning → model.House
 left_of st ms = house_after thin st.houses st.rates st.currencies ms
 
--- the memory holds what is left of some mornings in bounds
+-- the memory holds what is left of some mornings in bounds: of deals and of rates that is said where their slices are long enough for those mornings
 pub record Remains (m : Memory) (ms : List Morning) : Type 0 where
   pub start : StartFits m.house.start
   pub fit : Fit thin m.house.start.houses m.house.start.rates m.house.start.currencies 0 ms
@@ -52,8 +52,7 @@ pub record Remains (m : Memory) (ms : List Morning) : Type 0 where
   pub in_time : length ms ≤ 65536
   pub many : m.house.deals ≡ length (all_deals ms)
   pub few : length (all_deals ms) ≤ 65536
-  pub long : 16384 * length (all_deals ms) ≤ length m.deals
-  pub left : (c : ℕ) → c < length (all_deals ms) → Keeps m.deals c (slice_index_or (left_of m.house.start ms).held c gone)
+  pub left : 16384 * length (all_deals ms) ≤ length m.deals → (c : ℕ) → c < length (all_deals ms) → Keeps m.deals c (slice_index_or (left_of m.house.start ms).held c gone)
   pub rates : 4097 * m.house.start.rates ≤ length m.rates → HoldsRates m.rates m.house.start.rates (all_days ms)
 
 -- what the bytes of a morning are answered after others, with slices of these lengths: first their judgement, and at the last whether the slices are long enough
@@ -76,7 +75,19 @@ pub record Took (m : Memory) (sums bytes : List ℕ) (n : ℕ) (m' : Memory) (ms
   pub remains : Remains m' (ms ++ morning ∷ [])
   pub paid : Written m.payments (net_payments m.house.start (ms ++ morning ∷ [])) n m'.payments
 
+-- how bytes are judged by the house's own numbers, whatever the memory holds: refused, or taken as some morning, though a slice may be too short
+abbrev pub JudgedAs : Memory → List ℕ → Verdict Morning → Type 0
+JudgedAs m bytes v = MorningRead Thin m.house.start m.house.day m.house.deals bytes 0 v
+
+abbrev pub JudgedTaken : Memory → List ℕ → Type 0
+JudgedTaken m bytes = (morning : Morning) × JudgedAs m bytes (taken morning (length bytes))
+
+abbrev pub JudgedBy : Memory → List ℕ → NotTaken → Type 0
+JudgedBy m bytes (Refused e) = JudgedAs m bytes (refused (fault_of e))
+JudgedBy m bytes (TooShort s) = JudgedTaken m bytes
+
 -- what the public call answers, and what the memory then holds: where nothing is taken all of it is as it was, whatever it held
 pub record Takes (m : Memory) (sums bytes : List ℕ) (r : Result ℕ NotTaken) (m' : Memory) : Type 0 where
   pub unchanged : MatchResult r (λ _. Unit {0}) (λ _. m' ≡ m)
+  pub judged : MatchResult r (λ _. JudgedTaken m bytes) (JudgedBy m bytes)
   pub answers : (ms : List Morning) → Remains m ms → MatchResult r (λ n. Took m sums bytes n m' ms) (λ e. Answer m.house.start ms bytes (lengths m sums) (refused (refusal_of e)))

@@ -1,5 +1,5 @@
 -- How long the lent slices have to be, and which is the first that is too short. Assumes nothing: these are definitions.
-use Rattle.std.specs.Prelude.{◌≡◌, ℕ, ◌+◌, ◌*◌, ◌<◌, ◌≤◌, List, length, Result, MatchResult}
+use Rattle.std.specs.Prelude.{◌≡◌, ℕ, ◌+◌, ◌*◌, ◌<◌, ◌≤◌, List, length, Err, Result, MatchResult}
 use Rattle.deals.specs.Contract.{Deal}
 use Rattle.deals.specs.Lines.{pair_count}
 use Rattle.mornings.specs.declared.Start.{Start}
@@ -50,7 +50,8 @@ pub record HasRoom (first new : ℕ) (lent : Lengths) (n : ℕ) : Type 0 where
   pub deals : 16384 * n ≤ lent.deals
   pub work : 131072 ≤ lent.work
 
--- the slices are long enough, or which is the first that is not, for the deals that are kept and those of the morning
+-- the slices are long enough, or which is the first that is not, for the deals that are kept and those of the morning; where the deals' is too short it is the first, whatever it holds
 pub record Measures (st : Start) (s : List ℕ) (first : ℕ) (bytes : List ℕ) (new : ℕ) (lent : Lengths) (r : Result ℕ Lent) : Type 0 where
   pub safe : MatchResult r (HasRoom first new lent) (λ _. Unit {0})
+  pub no_deals : lent.deals < 16384 * (first + new) → r ≡ Err Deals
   pub means : (dd : List Deal) → PairsStand s first bytes new dd → length dd ≤ 65536 → MatchResult r (λ _. LongEnough (wanted st dd) lent) (FirstShort (wanted st dd) lent)

@@ -1,7 +1,8 @@
 -- Whole runs of a house: mornings one after the other, each answered as the public call promises. Assumes nothing: these are definitions and statements, whose proof a function's contract asks for.
-use Rattle.std.specs.Prelude.{◌≡◌, ℕ, ◌*◌, ◌<◌, ◌≤◌, ◌≢◌, List, [], ◌∷◌, ◌++◌, length, take, pos, ◌+ℤ◌, Ok, Err, slice_index_or}
+use Rattle.std.specs.Prelude.{◌≡◌, ℕ, ◌+◌, ◌-◌, ◌*◌, ◌<◌, ◌≤◌, ◌≢◌, List, [], ◌∷◌, ◌++◌, length, take, ℤ, pos, ◌+ℤ◌, Ok, Err, slice_index_or}
 use Rattle.deals.specs.Contract.{Deal, Morning, flows, net, all_days, all_deals}
 use Rattle.deals.specs.Promise.{thin, SamePaid, ThinBuilt, moves, all_of}
+use Rattle.deals.specs.Later.{net_on}
 use Rattle.deals.specs.House as model
 use Rattle.texts.specs.declared.stages.Stage.TheVariants.{Thin}
 use Rattle.mornings.specs.declared.Start.{Start}
@@ -15,13 +16,22 @@ use Rattle.settlement.specs.Directory.{entry_of, part_of}
 use Rattle.settlement.specs.declared.room.Lengths.{Lengths}
 use Rattle.settlement.specs.Remains.{Memory, new_house, Remains, Answer, Takes}
 
--- the same house, lent other slices, as long or longer: of each deal the same entry, and the same part if something is left of it; of deals of which nothing is left, of work and of payments anything
+-- of each deal so far the same entry, and the same part if something is left of it
+pub record DealsAlike (n : ℕ) (s s' : List ℕ) : Type 0 where
+  pub long : 16384 * n ≤ length s
+  pub entries : (c : ℕ) → c < n → entry_of s' c ≡ entry_of s c
+  pub parts : (c : ℕ) → c < n → 0 < (entry_of s c).kept.rows → part_of s' c ≡ part_of s c
+
+-- the same rates of 4,097 days
+pub record RatesAlike (n : ℕ) (words words' : List ℤ) : Type 0 where
+  pub long : 4097 * n ≤ length words
+  pub same : (i : ℕ) → i < 4097 * n → slice_index_or words' i (pos 0) ≡ slice_index_or words i (pos 0)
+
+-- the same house, lent other slices. Those that are long enough for what was kept have it still: the deals, but for the parts of which nothing is left, and the rates once there was a morning. Of work and of payments anything
 pub record Alike (m m' : Memory) : Type 0 where
   pub house : m'.house ≡ m.house
-  pub long : 16384 * m.house.deals ≤ length m'.deals
-  pub entries : (c : ℕ) → c < m.house.deals → entry_of m'.deals c ≡ entry_of m.deals c
-  pub parts : (c : ℕ) → c < m.house.deals → 0 < (entry_of m.deals c).kept.rows → part_of m'.deals c ≡ part_of m.deals c
-  pub rates : m'.rates ≡ m.rates
+  pub deals : 16384 * m.house.deals ≤ length m'.deals → DealsAlike m.house.deals m.deals m'.deals
+  pub rates : 0 < m.house.day → 4097 * m.house.start.rates ≤ length m'.rates → RatesAlike m.house.start.rates m.rates m'.rates
 
 -- how many payments there were on a day, and the bytes at whose front they stand
 pub record Paying : Type 0 where
@@ -65,6 +75,18 @@ AnythingElse = (m m' : Memory) (ms : List Morning) → Alike m m' → Remains m 
 -- so the memory holds in every run what is left of the mornings taken, and on each day what was paid is what the meaning says
 abbrev pub RunsPay : Type 0
 RunsPay = (st : Start) (ms : List Morning) (ps : List Paying) (m : Memory) → Run st ms ps m → Remains m ms × PaidEach st [] ms ps
+
+-- and it is what the meaning gives for that day once all mornings of the run are known, those that came later too
+abbrev pub RunsLater : Type 0
+RunsLater =
+    (st : Start) (ms later : List Morning) (ps qs : List Paying) (p : Paying) (m : Memory) (k a b : ℕ) → Run st (ms ++ later) (ps ++ p ∷ qs) m → length ps + 1 ≡ length ms →
+    k < st.currencies → a < st.houses → b < st.houses → a ≢ b → bytes_pay p.count p.bytes k a b ≡ net_on (length ms - 1) (ms ++ later) k a b
+
+-- with other slices lent a morning's payments are the same
+abbrev pub PaysTheSame : Type 0
+PaysTheSame =
+    (m n m' n' : Memory) (ms : List Morning) (sums sums' bytes : List ℕ) (i j : ℕ) → Alike m n → Remains m ms → Takes m sums bytes (Ok i) m' → Takes n sums' bytes (Ok j) n' →
+    (i ≡ j) × (take (13 * i) m'.payments ≡ take (13 * j) n'.payments)
 
 -- what flows under a deal in a currency, over all days of a run, is at most what its contract can move
 abbrev pub RunsWithin : Type 0

@@ -3,10 +3,9 @@
 ghost use Rattle.std.specs.Prelude.{◌≡◌, ◌+◌, ◌*◌, ◌≤◌, length};
 ghost use Rattle.settlement.specs.Directory.{entry_place, entry_in, entry_of, EntryPut};
 
+use crate::room::SLOT;
 use octets::Word;
 use residual::deal::{PART, Summary};
-
-pub const SLOT: usize = 16384;
 
 const ENTRY: usize = 16;
 

@@ -4,7 +4,7 @@
 ghost use Rattle.std.specs.Prelude.{◌≡◌, ◌*◌, ◌≤◌, length};
 ghost use Rattle.mornings.specs.Verdict.{fault};
 ghost use Rattle.settlement.specs.Remains.{refusal_of, new_house, memory, Takes};
-ghost use Rattle.settlement.specs.Runs.{OneAnswer, NoneRemains, AnythingElse, RunsPay, RunsWithin, ModelPays};
+ghost use Rattle.settlement.specs.Runs.{OneAnswer, NoneRemains, AnythingElse, PaysTheSame, RunsPay, RunsLater, RunsWithin, ModelPays};
 ghost use Rattle.settlement.specs.Settled.{Settles};
 ghost use Rattle.settlement.specs.declared.NotTaken.TheVariants.{Refused, TooShort};
 
@@ -150,7 +150,9 @@ pub fn runs_stand()
     ensures one { OneAnswer }
     ensures none { NoneRemains }
     ensures other { AnythingElse }
+    ensures same { PaysTheSame }
     ensures pay { RunsPay }
+    ensures later { RunsLater }
     ensures within { RunsWithin }
     ensures model { ModelPays }
 {}

@@ -3,7 +3,8 @@ ghost use Rattle.std.specs.Prelude.{◌≡◌, ◌+◌, ◌*◌, ◌≤◌, leng
 ghost use Rattle.settlement.specs.Directory.{entry_of};
 ghost use Rattle.settlement.specs.Keeping.{WokenDeal, Netted};
 
-use crate::directory::{Entry, SLOT, read_entry, write_entry};
+use crate::directory::{Entry, read_entry, write_entry};
+use crate::room::SLOT;
 use residual::deal::{PART, wake};
 
 // What flows to who holds the deal is added up.

@@ -2,7 +2,8 @@
 ghost use Rattle.std.specs.Prelude.{◌+◌, ◌*◌, ◌≤◌, length};
 ghost use Rattle.settlement.specs.Opening.{OpenedDeal, OpenedNext, OpensAll};
 
-use crate::directory::{Entry, SLOT, write_entry};
+use crate::directory::{Entry, write_entry};
+use crate::room::SLOT;
 use mornings::Start;
 use mornings::places::{DealAt, whole_deal_at};
 use residual::deal::{PART, open};
@@ -56,7 +57,7 @@ fn open_next(
 }
 
 // All deals of a morning, behind those that there are: k counts them, and first + k is a deal's number.
-pub fn open_deals(deals: &mut [u8], first: usize, bytes: &[u8], n: u16, start: Start)
+pub(crate) fn open_deals(deals: &mut [u8], first: usize, bytes: &[u8], n: u16, start: Start)
     requires { 16384 * (first + n) ≤ length deals.old }
     ensures { OpensAll start bytes.now n first deals.old deals.new }
 {

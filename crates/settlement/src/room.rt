@@ -3,18 +3,18 @@ ghost use Rattle.std.specs.Prelude.{◌≡◌, ◌≤◌, length};
 ghost use Rattle.settlement.specs.Room.{slice_number, Measures};
 
 use crate::counting::{PAIRS, count_pairs};
-use crate::directory::SLOT;
+use fixings::DAYS;
 use mornings::Start;
 use mornings::payments::PAYMENT;
 
 // A house has at most so many deals.
-const DEALS: usize = 65536;
+pub const DEALS: usize = 65536;
 
-// The days for which rates are kept.
-const DAYS: usize = 4097;
+// The bytes for each of them.
+pub const SLOT: usize = 16384;
 
-// 1 MiB, in words of eight bytes.
-const WORK: usize = 131072;
+// 1 MiB of work, in words of eight bytes.
+pub const WORK: usize = 131072;
 
 // The lent slices, in their order.
 #[derive(Clone, Copy)]

@@ -4,8 +4,8 @@ use Rattle.std.proofs.lemmas.List.{length-take, length-drop}
 use Rattle.fixings.proofs.Slots.{row_end, one_more_day, put_length, put_there, put_apart}
 use Rattle.fixings.proofs.keep_rates.Goals as goal
 
-pub returns : goal.returns
-returns c ds d many rates h =
+pub returns-clause-kept : goal.returns-clause-kept
+returns-clause-kept c ds d many rates h =
     let told = c.in-Some.ensures in
     let first = c.in-Some.first in
     let n = first + c.args.n - first in

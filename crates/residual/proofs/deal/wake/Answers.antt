@@ -8,8 +8,8 @@ use Rattle.residual.proofs.Behind.{holds_front, holds_more}
 use Rattle.residual.proofs.Waking.{fresh, deal_woken}
 use Rattle.residual.proofs.deal.wake.Goals as goal
 
-pub returns : goal.returns
-returns c n es slots num long h few_rows few_entries =
+pub returns-clause-wakes : goal.returns-clause-wakes
+returns-clause-wakes c n es slots num long h few_rows few_entries =
     let kept = c.args.kept in
     let part = c.in-Some.part.now in
     let rows = c.read_rows-rows.result in

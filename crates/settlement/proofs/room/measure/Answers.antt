@@ -1,4 +1,4 @@
-use Rattle.settlement.proofs.Lengths.{no_deals, too_many, no_rates, no_work, room_for_all, no_payments, no_sums, all_long}
+use Rattle.settlement.proofs.Lengths.{few_bytes, too_many, no_rates, no_work, room_for_all, no_payments, no_sums, all_long}
 use Rattle.settlement.proofs.room.measure.Goals as goal
 use Rattle.settlement.proofs.room.measure.Goals.{then-n-gt-DEALS-via-then-n-gt-DEALS, then-n-gt-DEALS-via-else-n-gt-DEALS+then-lent-n}
 
@@ -6,7 +6,7 @@ pub returns-then-n-gt-DEALS : goal.returns-then-n-gt-DEALS
 returns-then-n-gt-DEALS c =
     elim c.then-n-gt-DEALS.branch [
       | then-n-gt-DEALS-via-then-n-gt-DEALS w ↦ too_many c.args.start c.args.deals.now c.args.first c.args.bytes.now c.args.new c.args.lent w.if-n-gt-DEALS.true
-      | then-n-gt-DEALS-via-else-n-gt-DEALS+then-lent-n w ↦ no_deals c.args.start c.args.deals.now c.args.first c.args.bytes.now c.args.new c.args.lent w.if-lent-n.true
+      | then-n-gt-DEALS-via-else-n-gt-DEALS+then-lent-n w ↦ few_bytes c.args.start c.args.deals.now c.args.first c.args.bytes.now c.args.new c.args.lent w.if-lent-n.true
     ]
 
 pub returns-then-lent-start : goal.returns-then-lent-start
