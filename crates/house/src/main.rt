@@ -25,7 +25,7 @@ const DEALS: usize = 65536;
 
 const SHORTEST: usize = 17;
 
-// A house, and the memory that is lent to it.
+// A house, and the memory that is lent to it. The same slices stand in `lent_lines`, just as long as it is told: a program can't use another.
 #[derive(Drop)]
 struct Memory {
     house: House,
@@ -36,33 +36,28 @@ struct Memory {
     sums: Vec<u8>,
 }
 
-// What is said where memory runs out.
-fn no_memory(_e: AllocError) -> anyhow::Error {
-    anyhow!("out of memory")
-}
-
 // Makes it long enough for so many deals, with so many bytes each; the bytes that there are stay. The room doubles as it grows, so that few of them are ever copied, but for no more deals than a house may have.
-fn lengthen(bytes: &mut Vec<u8>, each: usize, deals: usize) -> anyhow::Result<()>
+fn lengthen(bytes: &mut Vec<u8>, each: usize, deals: usize) -> Result<(), AllocError>
     requires small { each ≤ 16384 }
     requires few { deals ≤ 65536 }
 {
     let n = bytes.len().max(each * deals);
     if n > bytes.capacity() {
         let room = n.max(bytes.capacity().saturating_mul(2).min(each * DEALS));
-        bytes.reserve_exact(room - bytes.len()).map_err(no_memory)?;
+        bytes.reserve_exact(room - bytes.len())?;
     }
-    bytes.resize(n, 0).map_err(no_memory)
+    bytes.resize(n, 0)
 }
 
 impl Memory {
     // A house with no deals, and what it is lent whatever comes.
-    fn new(alloc: Global, start: Start) -> anyhow::Result<Memory> {
+    fn new(alloc: Global, start: Start) -> Result<Memory, AllocError> {
         let rates = RATE * start.rates as usize;
         Ok(Memory {
             house: House::new(start),
             deals: Vec::new(alloc),
-            rates: vec![in alloc; 0; rates].map_err(no_memory)?,
-            work: vec![in alloc; 0; WORK].map_err(no_memory)?,
+            rates: vec![in alloc; 0; rates]?,
+            work: vec![in alloc; 0; WORK]?,
             payments: Vec::new(alloc),
             sums: Vec::new(alloc),
         })
@@ -72,16 +67,15 @@ impl Memory {
     fn deals_with(&self, bytes: &[u8]) -> usize
         ensures { result ≤ 65536 }
     {
-        let said = match bytes {
-            [low, high, ..] => u16::from_le_bytes([*low, *high]) as usize,
-            _ => 0,
-        };
+        let said = bytes
+            .first_chunk::<2>()
+            .map_or(0, |two| u16::from_le_bytes(*two) as usize);
         let new = said.min(bytes.len() / SHORTEST);
         (self.house.deals as usize + new).min(DEALS)
     }
 
     // Room for a morning. A payment for each deal and currency is always enough, and spares the house from counting pairs.
-    fn make_room(&mut self, bytes: &[u8]) -> anyhow::Result<()> {
+    fn make_room(&mut self, bytes: &[u8]) -> Result<(), AllocError> {
         let deals = self.deals_with(bytes);
         let paid = PAYMENT * self.house.start.currencies as usize;
         lengthen(&mut self.deals, DEAL, deals)?;
@@ -112,7 +106,7 @@ fn bytes_of(rt: &HostRuntime, name: &str) -> anyhow::Result<Vec<u8>> {
     }
 }
 
-// A morning: its payments, one to a line, or its refusal.
+// A morning: its payments, one to a line, or its refusal. A history prints its payments by the same loop: a struct for both, made only to be printed, would be no shorter.
 fn morning(memory: &mut Memory, bytes: &[u8], out: &mut impl Write) -> anyhow::Result<()> {
     memory.make_room(bytes)?;
     let day = memory.house.day;
@@ -169,11 +163,7 @@ fn time_mornings(rt: &HostRuntime, start: Start, mornings: &[Vec<u8>]) -> anyhow
         spent = spent.saturating_add(began.elapsed(rt)?);
     }
     let ns = spent.as_nanos();
-    let House {
-        start: _,
-        day,
-        deals,
-    } = memory.house;
+    let House { day, deals, .. } = memory.house;
     let sum = sum.cast_signed();
     Ok(println!(rt; "{ns} ns, {day} days, {deals} deals, {sum}")?)
 }

@@ -26,9 +26,7 @@ fn main(rt: HostRuntime) -> anyhow::Result<()> {
         let line = line?;
         let bytes = hex::decode(rt.alloc(), line.as_str())?;
         match judge(bytes.as_slice()) {
-            Ok(ends) => {
-                let deals = ends.deals;
-                let choices = ends.choices;
+            Ok(Ends { deals, choices, .. }) => {
                 println!(rt; "taken, {deals} deals, {choices} choices")?
             }
             Err(e) => println!(rt; "{e}")?,

@@ -29,15 +29,15 @@ fn begin(rt: &HostRuntime, bytes: &[u8]) -> anyhow::Result<History> {
 
 // A line: a start, a morning, or something else.
 fn line(rt: &HostRuntime, history: &mut History, text: &str) -> anyhow::Result<()> {
-    if !text.starts_with("00") && !text.starts_with("01") {
-        return Ok(println!(rt; "{text}")?);
+    if let Some(start) = text.strip_prefix("00") {
+        let bytes = hex::decode(rt.alloc(), start)?;
+        *history = begin(rt, bytes.as_slice())?;
+    } else if let Some(day) = text.strip_prefix("01") {
+        let bytes = hex::decode(rt.alloc(), day)?;
+        morning(rt, history, bytes.as_slice())?;
+    } else {
+        println!(rt; "{text}")?;
     }
-    let bytes = hex::decode(rt.alloc(), text)?;
-    let rest = bytes.as_slice().get(1..).unwrap_or(&[]);
-    if text.starts_with("01") {
-        return morning(rt, history, rest);
-    }
-    *history = begin(rt, rest)?;
     Ok(())
 }
 
