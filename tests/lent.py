@@ -26,6 +26,10 @@ def answers(start, steps):
     start = model.judge_start(start)
     lent, deals, days = [0] * 5, [], []
     for step in steps:
+        if isinstance(step, tuple):
+            # bytes that are no contract's in the part of a deal: these pay nothing
+            deals[step[1]] = deals[step[1]][:3] + (("nothing",),)
+            continue
         if not isinstance(step, bytes):
             lent = step
             continue
@@ -80,6 +84,13 @@ def but(lent, **less):
     return [n + less.get(s, 0) for n, s in zip(lent, SLICES)] + lent[5:]
 
 
+def ruined(deal, day):
+    """Bytes in the part of a deal as no contract has them: a row for a day, up to the last place, and nodes of two parts, the second far behind, or before the first."""
+    row = day.to_bytes(4, "little") + (0).to_bytes(2, "little") + (256).to_bytes(2, "little") + bytes(8)
+    nodes = b"".join(k.to_bytes(2, "little") + bytes(2) + second.to_bytes(2, "little") + bytes(10) for k, second in ((3, 4), (3, 256), (3, 0), (0, 0), (3, 0), (0, 0)))
+    return f"{DEAL * deal}@{row.hex()} {DEAL * deal + 1536}@{nodes.hex()}", deal
+
+
 # name; start; slices and mornings in order; answers in short: a refusal, or how many payments
 BOOKS = [
     ("all just long enough", FOUR, [ENOUGH, THREE], ["2"]),
@@ -122,6 +133,10 @@ BOOKS = [
         [lend(3 * DEAL, payments=78), NEXT, NONE], ["1", "5 at 0", "5 at 1", "5 at 2", "5 at 3", "5 at 4", "1", "1"]),
     ("another morning in place of one for which there was no room", FOUR, [lend(DEAL, payments=39), THREE, DONE], ["5 at 0", "1"]),
     ("damaged, too short, and then taken", FOUR, [but(ENOUGH, sums=-1), THREE[:-1], THREE, ENOUGH, THREE], ["3 at 79", "5 at 4", "2"]),
+    ("deals cut below what is kept", FOUR, [ENOUGH, THREE, but(ENOUGH, deals=-2 * DEAL), NONE, lend(), NONE], ["2", "5 at 0", "5 at 0"]),
+    # bytes that are no contract's
+    ("parts that would stand in one another", FOUR, [ENOUGH, THREE, ruined(1, 1), NONE, NONE], ["2", "0", "0"]),
+    ("anything in the part of a finished deal", FOUR, [ENOUGH, THREE, ruined(0, 1), ruined(2, 1), NONE, NONE], ["2", "1", "0"]),
     # none of something
     ("no rates", begin(4, 0, 3), [lend(DEAL, 0, payments=39), morning((0, 1, "pays 5 0"), rates=0)], ["1"]),
     ("no rates, work too short", begin(4, 0, 3), [lend(DEAL, 0, WORK - 1, 39), morning((0, 1, "pays 5 0"), rates=0)], ["5 at 2"]),
@@ -172,7 +187,7 @@ def main():
 
     def book(name, start, steps):
         got = list(answers(start, steps))
-        words = [step.hex() if isinstance(step, bytes) else ",".join(map(str, step)) for step in steps]
+        words = [step.hex() if isinstance(step, bytes) else step[0] if isinstance(step, tuple) else ",".join(map(str, step)) for step in steps]
         lines.extend(["# " + name, " ".join([start.hex()] + words)])
         out.extend(["# " + name] + got)
         return got

@@ -1,29 +1,19 @@
-// Reads a start and mornings from the files that are named, and prints what is paid on each day, and the refusal of each that is refused. With --time before them it reads all first, and prints one line alone: how long it took to take the mornings, how many days and deals there are then, and the sum of all payments.
+// Reads a start and mornings from the files that are named, and prints what is paid on each day, and the refusal of each that is refused. With --time before them it reads all first, and prints one line alone: how long all mornings took, how many days and deals there are then, and the sum of all payments.
 #![tactic(auto)]
 
 ghost use Rattle.std.specs.Prelude.{◌≤◌};
 
 use anyhow::{anyhow, bail};
+use fixings::DAYS;
 use mornings::payments::{PAYMENT, read_payment};
 use mornings::{Start, judge_start};
+use settlement::room::{DEALS, SLOT, WORK};
 use settlement::{House, NotTaken};
 use std::alloc::{AllocError, Global};
 use std::env::Args;
 use std::io::{BufWriter, Write};
-use std::time::{Duration, Instant};
+use std::time::Instant;
 use std::{env, fs, io};
-
-// What a house is lent: so many bytes for each deal, so many words for each rate, and so many to work in.
-const DEAL: usize = 16384;
-
-const RATE: usize = 4097;
-
-const WORK: usize = 131072;
-
-// A house has at most so many deals, and each takes at least so many bytes of its morning.
-const DEALS: usize = 65536;
-
-const SHORTEST: usize = 17;
 
 // A house, and the memory that is lent to it. The same slices stand in `lent_lines`, just as long as it is told: a program can't use another.
 #[derive(Drop)]
@@ -36,23 +26,20 @@ struct Memory {
     sums: Vec<u8>,
 }
 
-// Makes it long enough for so many deals, with so many bytes each; the bytes that there are stay. The room doubles as it grows, so that few of them are ever copied, but for no more deals than a house may have.
+// Makes it long enough for so many deals, with so many bytes each; the bytes that there are stay.
 fn lengthen(bytes: &mut Vec<u8>, each: usize, deals: usize) -> Result<(), AllocError>
     requires small { each ≤ 16384 }
     requires few { deals ≤ 65536 }
 {
     let n = bytes.len().max(each * deals);
-    if n > bytes.capacity() {
-        let room = n.max(bytes.capacity().saturating_mul(2).min(each * DEALS));
-        bytes.reserve_exact(room - bytes.len())?;
-    }
+    bytes.reserve_exact(n - bytes.len())?;
     bytes.resize(n, 0)
 }
 
 impl Memory {
     // A house with no deals, and what it is lent whatever comes.
     fn new(alloc: Global, start: Start) -> Result<Memory, AllocError> {
-        let rates = RATE * start.rates as usize;
+        let rates = DAYS * start.rates as usize;
         Ok(Memory {
             house: House::new(start),
             deals: Vec::new(alloc),
@@ -63,38 +50,45 @@ impl Memory {
         })
     }
 
-    // How many deals there are at most with a morning: as many more as its first two bytes say, but no more than it is long enough for, nor than a house may have.
-    fn deals_with(&self, bytes: &[u8]) -> usize
-        ensures { result ≤ 65536 }
-    {
-        let said = bytes
+    // Room for a morning that wants more: for as many deals as it brings, as its first two bytes say, and then for a quarter more, so that the next ones find room. A payment for each deal and currency is always enough, and spares the house from counting pairs.
+    fn make_room(&mut self, bytes: &[u8]) -> Result<(), AllocError> {
+        let new = bytes
             .first_chunk::<2>()
             .map_or(0, |two| u16::from_le_bytes(*two) as usize);
-        let new = said.min(bytes.len() / SHORTEST);
-        (self.house.deals as usize + new).min(DEALS)
-    }
-
-    // Room for a morning. A payment for each deal and currency is always enough, and spares the house from counting pairs.
-    fn make_room(&mut self, bytes: &[u8]) -> Result<(), AllocError> {
-        let deals = self.deals_with(bytes);
+        let wanted = self.house.deals as usize + new;
+        let deals = (wanted + wanted / 4).min(DEALS);
         let paid = PAYMENT * self.house.start.currencies as usize;
-        lengthen(&mut self.deals, DEAL, deals)?;
+        lengthen(&mut self.deals, SLOT, deals)?;
         lengthen(&mut self.payments, paid, deals)?;
         lengthen(&mut self.sums, paid, deals)
     }
 
-    // Takes a morning: the payments of its day, 13 bytes each, or why it is not taken.
-    fn take(&mut self, bytes: &[u8]) -> Result<&[u8], NotTaken> {
-        let count = self.house.take(
+    // Takes a morning: how many payments there are, or why it is not taken.
+    fn take(&mut self, bytes: &[u8]) -> Result<usize, NotTaken> {
+        self.house.take(
             bytes,
             self.deals.as_mut_slice(),
             self.rates.as_mut_slice(),
             self.work.as_mut_slice(),
             self.payments.as_mut_slice(),
             self.sums.as_slice(),
-        )?;
-        let end = count.saturating_mul(PAYMENT);
-        Ok(self.payments.get(..end).unwrap_or(&[]))
+        )
+    }
+
+    // The same, with more memory where that is wanting: so a morning that is refused costs none. The payments are handed out, 13 bytes each.
+    fn pay(&mut self, bytes: &[u8]) -> anyhow::Result<Result<&[u8], NotTaken>> {
+        let mut taken = self.take(bytes);
+        if let Err(NotTaken::TooShort(_)) = taken {
+            self.make_room(bytes)?;
+            taken = self.take(bytes);
+        }
+        Ok(match taken {
+            Ok(count) => {
+                let end = count.saturating_mul(PAYMENT);
+                Ok(self.payments.get(..end).unwrap_or(&[]))
+            }
+            Err(e) => Err(e),
+        })
     }
 }
 
@@ -108,9 +102,8 @@ fn bytes_of(rt: &HostRuntime, name: &str) -> anyhow::Result<Vec<u8>> {
 
 // A morning: its payments, one to a line, or its refusal. A history prints its payments by the same loop: a struct for both, made only to be printed, would be no shorter.
 fn morning(memory: &mut Memory, bytes: &[u8], out: &mut impl Write) -> anyhow::Result<()> {
-    memory.make_room(bytes)?;
     let day = memory.house.day;
-    match memory.take(bytes) {
+    match memory.pay(bytes)? {
         Ok(payments) => {
             for bytes in payments.chunks_exact(PAYMENT) {
                 let payment = read_payment(bytes, 0);
@@ -142,27 +135,24 @@ fn run(rt: &HostRuntime, first: &str, names: Args) -> anyhow::Result<()> {
     }
 }
 
-// Takes a morning for which there is room: all that is paid on it, together, modulo 2^64; nothing where it is refused.
-fn paid_on(memory: &mut Memory, bytes: &[u8]) -> u64 {
+// Takes a morning: all that is paid on it, together, modulo 2^64; nothing where it is refused.
+fn paid_on(memory: &mut Memory, bytes: &[u8]) -> anyhow::Result<u64> {
     let mut sum: u64 = 0;
-    for bytes in memory.take(bytes).unwrap_or(&[]).chunks_exact(PAYMENT) {
+    for bytes in memory.pay(bytes)?.unwrap_or(&[]).chunks_exact(PAYMENT) {
         sum = sum.wrapping_add(read_payment(bytes, 0).amount);
     }
-    sum
+    Ok(sum)
 }
 
-// Mornings after a start, with the clock. It stands still while the memory is made longer, since a house is lent it. The sum is printed as a number with sign.
+// Mornings after a start, with the clock, which counts the memory too. The sum is printed as a number with sign.
 fn time_mornings(rt: &HostRuntime, start: Start, mornings: &[Vec<u8>]) -> anyhow::Result<()> {
+    let began = Instant::now(rt)?;
     let mut memory = Memory::new(rt.alloc(), start)?;
-    let mut spent = Duration::ZERO;
     let mut sum: u64 = 0;
     for bytes in mornings {
-        memory.make_room(bytes.as_slice())?;
-        let began = Instant::now(rt)?;
-        sum = sum.wrapping_add(paid_on(&mut memory, bytes.as_slice()));
-        spent = spent.saturating_add(began.elapsed(rt)?);
+        sum = sum.wrapping_add(paid_on(&mut memory, bytes.as_slice())?);
     }
-    let ns = spent.as_nanos();
+    let ns = began.elapsed(rt)?.as_nanos();
     let House { day, deals, .. } = memory.house;
     let sum = sum.cast_signed();
     Ok(println!(rt; "{ns} ns, {day} days, {deals} deals, {sum}")?)

@@ -1,4 +1,4 @@
-// Books of a house over lent slices, one to a line, in words. A word with commas says how long the slices are from then on: deals, rates, work, payments and sums, rates and work in words of eight bytes; behind these five comes the pattern that fills what is new. Of the others, in hexadecimal, the first is a start and each behind it a morning. Prints what each morning is answered, and whether all is as it was that must be. Lines that begin with # are printed as they are.
+// Books of a house over lent slices, one to a line, in words. A word with commas says how long the slices are from then on: deals, rates, work, payments and sums, rates and work in words of eight bytes; behind these five comes the pattern that fills what is new. A word with @ puts bytes in hexadecimal at a place of the deals. Of the others, in hexadecimal, the first is a start and each behind it a morning. Prints what each morning is answered, and whether all is as it was that must be. Lines that begin with # are printed as they are.
 #![tactic(auto)]
 
 use mornings::judge_start;
@@ -66,6 +66,13 @@ impl Lent {
         fit(&mut self.payments, number(lengths, 3), byte)?;
         fit(&mut self.sums, number(lengths, 4), byte)
     }
+
+    // Puts bytes at a place of the deals, as far as there is room for them.
+    fn put(&mut self, place: usize, bytes: &[u8]) {
+        for (byte, new) in self.deals.iter_mut().skip(place).zip(bytes) {
+            *byte = *new;
+        }
+    }
 }
 
 // Whether nothing has changed, in words.
@@ -114,6 +121,10 @@ fn book(rt: &HostRuntime, text: &str) -> anyhow::Result<()> {
     for word in text.split_whitespace() {
         if word.contains(',') {
             lent.fit(word)?;
+            continue;
+        }
+        if let Some((place, text)) = word.split_once('@') {
+            lent.put(number(place, 0), hex::decode(rt.alloc(), text)?.as_slice());
             continue;
         }
         let bytes = hex::decode(rt.alloc(), word)?;

@@ -57,7 +57,7 @@ pub fn open(part: &mut [u8], marks: &[Mark], from: u32) -> Summary
     }
 }
 
-// The first rows, by value; the others are of no account. Only these are written: a closure for `from_fn` would have to make all 96, at each deal that is woken.
+// The first rows, by value; the others are of no account. Only these are read: a closure for `from_fn` would have to read all 96, at each deal that is woken.
 fn read_rows(part: &[u8; PART], count: usize) -> [Row; ROWS]
     requires { count ≤ 96 }
     ensures { take count result ≡ first_rows part.now count }

@@ -10,7 +10,7 @@ const HOUSES: usize = 1024;
 // A house for each row and column of the table.
 pub(crate) const PAIRS: usize = 1048576;
 
-// One pair more, the lower house first; how many different ones there are then. Pairs of houses that there can't be are left out.
+// One pair more, the lower house first; how many different ones there are then. Pairs of houses that there can't be are left out. The count goes beside the table: to count what it holds at the end is one more pass, and no plainer.
 fn count_pair(seen: &mut [bool], count: usize, holder: u16, other: u16) -> usize
     ensures { CountedPair holder other seen.old count seen.new result }
 {
@@ -35,7 +35,7 @@ fn count_kept(deals: &[u8], n: usize, seen: &mut [bool]) -> usize
     count
 }
 
-// The pairs of a morning's deals besides.
+// The pairs of a morning's deals besides. Its deals are walked by place, as in `open_deals` and in a listing of `replay`: an iterator for the three would have to promise at each turn which deals are still to come.
 fn count_new(bytes: &[u8], n: u16, seen: &mut [bool], before: usize) -> usize
     ensures { CountedNew bytes.now n seen.old before result seen.new }
 {

@@ -34,7 +34,7 @@ pub struct House {
     pub deals: u32,
 }
 
-// Why a morning is not taken: its bytes are refused, or one of the lent slices is too short.
+// Why a morning is not taken: its bytes are refused, or one of the lent slices is too short. A history has an enum of its own, since what else may be wanting there is memory: one for both would let each answer what it never can.
 #[derive(Clone, Copy)]
 pub enum NotTaken {
     Refused(Refusal),

@@ -27,7 +27,7 @@ pub enum Lent {
 }
 
 impl Lent {
-    // Its number among them.
+    // Its number among them, by which the rules name it: a match, so that it doesn't hang on the order in which they stand here.
     pub(crate) fn number(self) -> usize
         ensures { result ≡ slice_number self }
     {
@@ -52,6 +52,7 @@ pub(crate) struct Lengths {
 }
 
 // How many deals there are with a morning's, if the slices are long enough for them; else the first that is not. None is for more deals than a house may have.
+// The bytes of deals and morning stay apart from the numbers that go with them, here, in `count_pairs` and in `open_deals`: that bytes are below 256 is known of a lent slice, but not of one within a struct.
 // Pairs are counted only where there is not room for each deal to be of a pair of its own.
 pub(crate) fn measure(
     start: Start,
