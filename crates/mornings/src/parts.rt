@@ -6,7 +6,7 @@ ghost use Rattle.mornings.specs.Judgement.{fault_of, Passes, RowRuns, TextRead, 
 
 use crate::numbers::{byte_up_to, house, long_from, other_house, rate, short};
 use crate::{Refusal, Start, numbered};
-use texts::nodes::Tree;
+use texts::reader::Reading;
 use texts::reading::{TextRefusal, read_part};
 use texts::stages::{Stage, built};
 
@@ -60,15 +60,15 @@ pub(crate) fn rates(bytes: &[u8], at: usize, n: u16) -> Result<usize, Refusal>
     row(at, n, |to| Ok(rate(bytes, to)?.1))
 }
 
-// The refusal of a text that passes the end. It says each case: behind `_` nothing would be known of what was read. Here and below `tree` is lent on beside `today`: a struct of both would have each function promise that it lends the same tree.
-fn cut_text(bytes: &[u8], at: usize, n: usize, today: Today, tree: &mut Tree) -> Refusal
+// The refusal of a text that passes the end. It says each case: behind `_` nothing would be known of what was read. Here and below `read` is lent on beside `today`: a struct of both would have each function promise that it lends the same reading.
+fn cut_text(bytes: &[u8], at: usize, n: usize, today: Today, read: &mut Reading) -> Refusal
     requires within { at ≤ length bytes.now }
     requires small { n ≤ 8192 }
     requires past { length bytes.now < at + n }
     ensures { TextRead today.stage today.start n bytes.now at (refused (fault_of result)) }
 {
     let start = today.start;
-    match read_part(bytes, at, bytes.len(), start.rates, start.currencies, tree) {
+    match read_part(bytes, at, bytes.len(), start.rates, start.currencies, read) {
         Ok(()) => Refusal::NoMorning(bytes.len()),
         Err(TextRefusal::Limit(_p)) => Refusal::NoMorning(bytes.len()),
         Err(TextRefusal::NoContract(p)) => {
@@ -82,7 +82,13 @@ fn cut_text(bytes: &[u8], at: usize, n: usize, today: Today, tree: &mut Tree) ->
 }
 
 // A contract in a text of n bytes.
-fn text(bytes: &[u8], at: usize, n: usize, today: Today, tree: &mut Tree) -> Result<usize, Refusal>
+fn text(
+    bytes: &[u8],
+    at: usize,
+    n: usize,
+    today: Today,
+    read: &mut Reading,
+) -> Result<usize, Refusal>
     requires { at ≤ length bytes.now }
     ensures { Passes (TextRead today.stage today.start n) bytes.now at result }
 {
@@ -90,25 +96,25 @@ fn text(bytes: &[u8], at: usize, n: usize, today: Today, tree: &mut Tree) -> Res
         return Err(Refusal::Limit(at));
     }
     if n > bytes.len() - at {
-        return Err(cut_text(bytes, at, n, today, tree));
+        return Err(cut_text(bytes, at, n, today, read));
     }
     let start = today.start;
-    read_part(bytes, at, at + n, start.rates, start.currencies, tree)?;
-    if !built(tree, today.stage) {
+    read_part(bytes, at, at + n, start.rates, start.currencies, read)?;
+    if !built(&read.tree, today.stage) {
         return Err(Refusal::NoContract(at));
     }
     Ok(at + n)
 }
 
 // A deal that has a number.
-fn deal_fields(bytes: &[u8], at: usize, today: Today, tree: &mut Tree) -> Result<usize, Refusal>
+fn deal_fields(bytes: &[u8], at: usize, today: Today, read: &mut Reading) -> Result<usize, Refusal>
     ensures { Passes (DealFields today.stage today.start today.day) bytes.now at result }
 {
     let (holder, other_at) = house(bytes, at, today.start)?;
     let (_other, day_at) = other_house(bytes, other_at, today.start, holder)?;
     let (_day, length_at) = long_from(bytes, day_at, today.day)?;
     let (n, text_at) = short(bytes, length_at)?;
-    text(bytes, text_at, n as usize, today, tree)
+    text(bytes, text_at, n as usize, today, read)
 }
 
 // The refusal of what comes too many, by what was read of its first part.
@@ -127,17 +133,17 @@ fn deal(
     at: usize,
     today: Today,
     number: usize,
-    tree: &mut Tree,
+    read: &mut Reading,
 ) -> Result<usize, Refusal>
     ensures { Passes (DealRead today.stage today.start today.day number) bytes.now at result }
 {
     if number >= 65536 {
         return Err(too_many(house(bytes, at, today.start), at));
     }
-    deal_fields(bytes, at, today, tree)
+    deal_fields(bytes, at, today, read)
 }
 
-// So many deals in a row, numbered behind those so far; one tree serves all of their texts. So this is a loop and no `row`: a closure that is lent the tree changes with each call, and nothing would be known of the bytes that it holds.
+// So many deals in a row, numbered behind those so far; one reading serves all of their texts. So this is a loop and no `row`: a closure that is lent it changes with each call, and nothing would be known of the bytes that it holds.
 pub(crate) fn deals(
     bytes: &[u8],
     at: usize,
@@ -147,11 +153,11 @@ pub(crate) fn deals(
 ) -> Result<usize, Refusal>
     ensures { Passes (Row n (DealRead today.stage today.start today.day) so_far) bytes.now at result }
 {
-    let mut tree = Tree::new();
+    let mut read = Reading::new();
     let mut to = at;
     for k in 0..n {
         let number = so_far as usize + k as usize;
-        to = deal(bytes, to, today, number, &mut tree)?;
+        to = deal(bytes, to, today, number, &mut read)?;
     }
     Ok(to)
 }

@@ -10,6 +10,7 @@ use crate::listing::DealIn;
 use figures::sum;
 use mornings::Start;
 use texts::nodes::Tree;
+use texts::reader::Reading;
 use texts::reading::read_part;
 
 // The days, and the start with which they were taken.
@@ -50,10 +51,10 @@ impl<'a> Book<'a> {
         if from > to || to > bytes.len() {
             return None;
         }
-        let mut tree = Tree::new();
+        let mut read = Reading::new();
         let start = self.start;
-        read_part(bytes, from, to, start.rates, start.currencies, &mut tree).ok()?;
-        Some(tree)
+        read_part(bytes, from, to, start.rates, start.currencies, &mut read).ok()?;
+        Some(read.tree)
     }
 
     // What flows on the last day under deal number c.

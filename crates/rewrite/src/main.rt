@@ -4,6 +4,7 @@
 use std::io;
 use std::io::Read;
 use texts::nodes::Tree;
+use texts::reader::Reading;
 use texts::reading::read_part;
 use texts::writing::write_contract;
 
@@ -21,9 +22,9 @@ fn main(rt: HostRuntime) -> io::Result<()> {
     let mut bytes = Vec::new(rt.alloc());
     rt.stdin().read_to_end(&mut bytes)?;
     let text = bytes.strip_suffix(b"\n").unwrap_or(&bytes);
-    let mut tree = Tree::new();
-    match read_part(text, 0, text.len(), 256, 64, &mut tree) {
-        Ok(()) => print_anew(&rt, &tree),
+    let mut read = Reading::new();
+    match read_part(text, 0, text.len(), 256, 64, &mut read) {
+        Ok(()) => print_anew(&rt, &read.tree),
         Err(refusal) => println!(rt; "{refusal}"),
     }
 }

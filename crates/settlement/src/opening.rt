@@ -7,7 +7,8 @@ use crate::room::SLOT;
 use mornings::Start;
 use mornings::places::{DealAt, whole_deal_at};
 use residual::deal::{PART, open};
-use texts::nodes::{Node, Tree};
+use texts::nodes::Node;
+use texts::reader::Reading;
 use texts::reading::read_part;
 
 // One deal, by its contract's marks. The fields of the entry come from two structs.
@@ -34,7 +35,7 @@ fn open_next(
     bytes: &[u8],
     at: usize,
     start: Start,
-    tree: &mut Tree,
+    read: &mut Reading,
 ) -> usize
     requires { 16384 * c + 16384 ≤ length deals.old }
     ensures { OpenedNext start bytes.now c at deals.old result deals.new }
@@ -48,11 +49,11 @@ fn open_next(
         d.text_end,
         start.rates,
         start.currencies,
-        tree,
+        read,
     ) else {
         return at;
     };
-    open_deal(deals, c, d, tree.row());
+    open_deal(deals, c, d, read.tree.row());
     d.text_end
 }
 
@@ -61,9 +62,9 @@ pub(crate) fn open_deals(deals: &mut [u8], first: usize, bytes: &[u8], n: u16, s
     requires { 16384 * (first + n) ≤ length deals.old }
     ensures { OpensAll start bytes.now n first deals.old deals.new }
 {
-    let mut tree = Tree::new();
+    let mut read = Reading::new();
     let mut at = 2;
     for k in 0..n {
-        at = open_next(deals, first + k as usize, bytes, at, start, &mut tree);
+        at = open_next(deals, first + k as usize, bytes, at, start, &mut read);
     }
 }

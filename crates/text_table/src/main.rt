@@ -4,6 +4,7 @@
 use std::io;
 use std::io::{BufRead, BufReader};
 use texts::nodes::Tree;
+use texts::reader::Reading;
 use texts::reading::read_part;
 use texts::writing::write_contract;
 
@@ -18,9 +19,9 @@ fn print_anew(rt: &HostRuntime, tree: &Tree) -> io::Result<()> {
 }
 
 fn print_verdict(rt: &HostRuntime, text: &[u8]) -> io::Result<()> {
-    let mut tree = Tree::new();
-    match read_part(text, 0, text.len(), 256, 64, &mut tree) {
-        Ok(()) => print_anew(rt, &tree),
+    let mut read = Reading::new();
+    match read_part(text, 0, text.len(), 256, 64, &mut read) {
+        Ok(()) => print_anew(rt, &read.tree),
         Err(refusal) => println!(rt; "{refusal}"),
     }
 }

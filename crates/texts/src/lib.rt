@@ -11,7 +11,7 @@ mod limits;
 pub mod nodes;
 mod numbers;
 mod ranges;
-mod reader;
+pub mod reader;
 pub mod reading;
 pub mod stages;
 mod words;

@@ -1,15 +1,14 @@
 // Reads a part of some bytes as the text of a contract.
-ghost use Rattle.std.specs.Prelude.{◌≡◌, ◌+◌, ◌<◌, ◌≤◌, [], length, MatchResult};
+ghost use Rattle.std.specs.Prelude.{◌≡◌, ℕ, ◌+◌, ◌<◌, ◌≤◌, [], length, MatchResult};
 ghost use Rattle.deals.specs.Contract.{Contract};
 ghost use Rattle.std.specs.List.{between};
 ghost use Rattle.texts.specs.Text.{RefusedAt};
 ghost use Rattle.texts.specs.Bounds.{TextTaken, TextRefused, PartRefused, refusal_number, refusal_place};
 ghost use Rattle.texts.specs.Nodes.{Holds, nodes_of};
-ghost use Rattle.texts.specs.Ranges.{WholeRead};
+ghost use Rattle.texts.specs.Ranges.{Counts, WholeRead};
 
 use crate::contracts::contract;
 use crate::limits::within_limits;
-use crate::nodes::Tree;
 use crate::reader::Reading;
 use std::fmt;
 
@@ -32,21 +31,21 @@ fn read_whole(text: &[u8], read: &mut Reading) -> Result<(), usize>
     Ok(())
 }
 
-// Reads a text, with so many rates and currencies. They come as two numbers: what holds both is `Ranges`, which is made of them here, and a struct for callers would be taken apart in each clause.
-fn read_text(text: &[u8], rates: u16, currencies: u8) -> Result<Tree, TextRefusal>
-    ensures { MatchResult result (λ t. (x : Contract) × TextTaken rates currencies text.now x × Holds t (nodes_of x)) (λ e. TextRefused rates currencies text.now (refusal_number e) (refusal_place e) × (refusal_place e ≤ length text.now)) }
+// Reads a text, for so many rates and currencies as the reading has begun with.
+fn read_text(text: &[u8], read: &mut Reading) -> Result<(), TextRefusal>
+    requires { Holds read.old.tree [] }
+    ensures { (rates currencies : ℕ) → Counts read.old.ranges rates currencies [] → MatchResult result (λ _. (x : Contract) × TextTaken rates currencies text.now x × Holds read.new.tree (nodes_of x)) (λ e. TextRefused rates currencies text.now (refusal_number e) (refusal_place e) × (refusal_place e ≤ length text.now)) }
 {
     if text.len() > 8192 {
         return Err(TextRefusal::Limit(0));
     }
-    let mut read = Reading::new(rates, currencies);
-    read_whole(text, &mut read).map_err(TextRefusal::NoContract)?;
+    read_whole(text, read).map_err(TextRefusal::NoContract)?;
     if !within_limits(&read.tree) {
         return Err(TextRefusal::Limit(0));
     }
     match read.ranges.first {
         Some(place) => Err(TextRefusal::Limit(place)),
-        None => Ok(read.tree),
+        None => Ok(()),
     }
 }
 
@@ -73,20 +72,25 @@ impl fmt::Display for TextRefusal {
     }
 }
 
-// Reads the bytes from one place to another as the text of a contract, with so many rates and currencies, into `out`, which is emptied on a refusal.
+// Reads the bytes from one place to another as the text of a contract, with so many rates and currencies; its nodes are then in the tree of `read`, which is emptied on a refusal. They come as two numbers: a struct for callers would be taken apart in each clause.
 pub fn read_part(
     bytes: &[u8],
     from: usize,
     to: usize,
     rates: u16,
     currencies: u8,
-    out: &mut Tree,
+    read: &mut Reading,
 ) -> Result<(), TextRefusal>
     requires ordered { from ≤ to }
     requires within { to ≤ length bytes.now }
-    ensures { MatchResult result (λ _. (x : Contract) × TextTaken rates currencies (between from to bytes.now) x × Holds out.new (nodes_of x)) (λ e. PartRefused rates currencies (between from to bytes.now) from e × Holds out.new []) }
+    ensures { MatchResult result (λ _. (x : Contract) × TextTaken rates currencies (between from to bytes.now) x × Holds read.new.tree (nodes_of x)) (λ e. PartRefused rates currencies (between from to bytes.now) from e × Holds read.new.tree []) }
 {
-    out.clear();
-    *out = read_text(&bytes[from..to], rates, currencies).map_err(|refusal| refusal.behind(from))?;
-    Ok(())
+    read.begin(rates, currencies);
+    match read_text(&bytes[from..to], read) {
+        Ok(()) => Ok(()),
+        Err(refusal) => {
+            read.tree.clear();
+            Err(refusal.behind(from))
+        }
+    }
 }
