@@ -1,7 +1,7 @@
 // A part of a contract begins on a day: what is due is added up, and what waits becomes a row.
 // The bytes, what they have left and what is due are lent one by one, and `state` is all three: a struct that holds them would have to promise besides that they stay the same ones.
-ghost use Rattle.std.specs.Prelude.{◌≡◌, List, ℤ};
-ghost use Rattle.residual.specs.Steps.{state, with_due, seen_through, with_row, begun};
+ghost use Rattle.std.specs.Prelude.{◌≡◌, ◌+◌, ◌<◌, ◌≤◌, List, ℤ, MatchOption};
+ghost use Rattle.residual.specs.Steps.{state, with_due, seen_through, with_row, with_turn, begun};
 
 use crate::cells::{Node, ROWS, Row, read_above, read_node, write_row, write_turn};
 use crate::deal::{PART, Summary};
@@ -35,6 +35,27 @@ fn see_through(part: &[u8; PART], n: usize, j: usize, amount: i64) -> i64
     }
 }
 
+// What a payment comes to, seen through what stands above it, is due.
+fn pay(part: &[u8; PART], above: u16, currency: u16, amount: i64, due: &mut [i64])
+    ensures { due.new ≡ with_due due.old currency (seen_through 256 part.now above amount) }
+{
+    let amount = see_through(part, DEEP, above as usize, amount);
+    add_due(due, currency as usize, amount);
+}
+
+// One more entry, for a part that is turned, and its number; none where there is no room.
+#[tactic(auto, unfolding(crate::specs::Steps::with_turn))]
+fn turn(part: &mut [u8; PART], left: &mut Summary, over: u16) -> Option<u16>
+    ensures { MatchOption result ((255 ≤ left.old.used) × (part.new ≡ part.old) × (left.new ≡ left.old)) (λ above. (left.old.used < 255) × (above ≡ left.old.used + 1) × ((due : List ℤ) → state part.new left.new due ≡ with_turn (state part.old left.old due) over)) }
+{
+    if left.used >= ENTRIES {
+        return None;
+    }
+    left.used += 1;
+    write_turn(part, left.used as usize, over);
+    Some(left.used)
+}
+
 // One more row; it is left out where there is no room.
 #[tactic(auto, unfolding(crate::specs::Steps::with_row))]
 pub(crate) fn push_row(part: &mut [u8; PART], left: &mut Summary, row: Row)
@@ -61,41 +82,17 @@ pub(crate) fn begin(part: &mut [u8; PART], n: usize, row: Row, left: &mut Summar
     };
     match read_node(part, row.part as usize) {
         Node::Nothing => {}
-        Node::Pays(k, a) => {
-            let amount = see_through(part, DEEP, row.above as usize, a);
-            add_due(due, k as usize, amount);
-        }
+        Node::Pays(currency, amount) => pay(part, row.above, currency, amount, due),
         Node::Turned => {
-            if left.used < ENTRIES {
-                left.used += 1;
-                write_turn(part, left.used as usize, row.above);
-                let above = left.used;
+            if let Some(above) = turn(part, left, row.above) {
                 begin(part, n - 1, Row { above, ..next }, left, due);
             }
         }
         // The second part begins where the first ends; where that lies outside, as it may in bytes that are no contract's, at the nearest place that doesn't.
         Node::Both(second) => {
-            let second = second.min(row.end).max(next.part);
-            begin(
-                part,
-                n - 1,
-                Row {
-                    end: second,
-                    ..next
-                },
-                left,
-                due,
-            );
-            begin(
-                part,
-                n - 1,
-                Row {
-                    part: second,
-                    ..row
-                },
-                left,
-                due,
-            );
+            let end = second.min(row.end).max(next.part);
+            begin(part, n - 1, Row { end, ..next }, left, due);
+            begin(part, n - 1, Row { part: end, ..row }, left, due);
         }
         Node::OnDay(day) => {
             if row.day < day {
