@@ -6,7 +6,6 @@ ghost use Rattle.std.specs.Prelude.{◌≤◌};
 use anyhow::{anyhow, bail};
 use fixings::DAYS;
 use mornings::payments::{PAYMENT, read_payment};
-use mornings::places::whole_deal_at;
 use mornings::{Start, judge_start};
 use settlement::room::{DEALS, SLOT, WORK};
 use settlement::{House, NotTaken};
@@ -15,9 +14,6 @@ use std::env::Args;
 use std::io::{BufWriter, Write};
 use std::time::Instant;
 use std::{env, fs, io};
-
-// No text is shorter than `nothing`.
-const SHORTEST: usize = 7;
 
 // A house, and the memory that is lent to it. The same slices stand in `lent_lines`, just as long as it is told: a program can't use another.
 #[derive(Drop)]
@@ -28,23 +24,6 @@ struct Memory {
     work: Vec<u64>,
     payments: Vec<u8>,
     sums: Vec<u8>,
-}
-
-// How many deals a morning brings: as many as its first two bytes say, but no more than stand whole in it, each with a text that is long enough for one. So bytes that are no morning's cost hardly any memory.
-fn deals_in(bytes: &[u8]) -> usize
-    ensures { result ≤ 65535 }
-{
-    let said = bytes
-        .first_chunk::<2>()
-        .map_or(0, |two| u16::from_le_bytes(*two));
-    let mut at = 2;
-    for n in 0..said {
-        match whole_deal_at(bytes, at) {
-            Some(deal) if deal.text_end - deal.text_at >= SHORTEST => at = deal.text_end,
-            _ => return n as usize,
-        }
-    }
-    said as usize
 }
 
 // Makes it long enough for so many deals, with so many bytes each; the bytes that there are stay.
@@ -71,12 +50,12 @@ impl Memory {
         })
     }
 
-    // Room for a morning, and then for a quarter more deals, so that the next ones find room. A payment for each deal and currency is always enough, and spares the house from counting pairs.
+    // Room for a morning that wants more: for as many deals as it brings, as its first two bytes say, and then for a quarter more, so that the next ones find room. A payment for each deal and currency is always enough, and spares the house from counting pairs.
     fn make_room(&mut self, bytes: &[u8]) -> Result<(), AllocError> {
-        let wanted = self.house.deals as usize + deals_in(bytes);
-        if SLOT * wanted <= self.deals.len() {
-            return Ok(());
-        }
+        let new = bytes
+            .first_chunk::<2>()
+            .map_or(0, |two| u16::from_le_bytes(*two) as usize);
+        let wanted = self.house.deals as usize + new;
         let deals = (wanted + wanted / 4).min(DEALS);
         let paid = PAYMENT * self.house.start.currencies as usize;
         lengthen(&mut self.deals, SLOT, deals)?;
@@ -84,18 +63,32 @@ impl Memory {
         lengthen(&mut self.sums, paid, deals)
     }
 
-    // Takes a morning: the payments of its day, 13 bytes each, or why it is not taken.
-    fn take(&mut self, bytes: &[u8]) -> Result<&[u8], NotTaken> {
-        let count = self.house.take(
+    // Takes a morning: how many payments there are, or why it is not taken.
+    fn take(&mut self, bytes: &[u8]) -> Result<usize, NotTaken> {
+        self.house.take(
             bytes,
             self.deals.as_mut_slice(),
             self.rates.as_mut_slice(),
             self.work.as_mut_slice(),
             self.payments.as_mut_slice(),
             self.sums.as_slice(),
-        )?;
-        let end = count.saturating_mul(PAYMENT);
-        Ok(self.payments.get(..end).unwrap_or(&[]))
+        )
+    }
+
+    // The same, with more memory where that is wanting: so a morning that is refused costs none. The payments are handed out, 13 bytes each.
+    fn pay(&mut self, bytes: &[u8]) -> anyhow::Result<Result<&[u8], NotTaken>> {
+        let mut taken = self.take(bytes);
+        if let Err(NotTaken::TooShort(_)) = taken {
+            self.make_room(bytes)?;
+            taken = self.take(bytes);
+        }
+        Ok(match taken {
+            Ok(count) => {
+                let end = count.saturating_mul(PAYMENT);
+                Ok(self.payments.get(..end).unwrap_or(&[]))
+            }
+            Err(e) => Err(e),
+        })
     }
 }
 
@@ -109,9 +102,8 @@ fn bytes_of(rt: &HostRuntime, name: &str) -> anyhow::Result<Vec<u8>> {
 
 // A morning: its payments, one to a line, or its refusal. A history prints its payments by the same loop: a struct for both, made only to be printed, would be no shorter.
 fn morning(memory: &mut Memory, bytes: &[u8], out: &mut impl Write) -> anyhow::Result<()> {
-    memory.make_room(bytes)?;
     let day = memory.house.day;
-    match memory.take(bytes) {
+    match memory.pay(bytes)? {
         Ok(payments) => {
             for bytes in payments.chunks_exact(PAYMENT) {
                 let payment = read_payment(bytes, 0);
@@ -130,8 +122,10 @@ fn mornings(rt: &HostRuntime, start: Start, names: Args) -> anyhow::Result<()> {
     for name in names {
         let bytes = bytes_of(rt, name.as_str())?;
         morning(&mut memory, bytes.as_slice(), &mut out)?;
+        // What a morning came to is seen before the next file is waited for.
+        out.flush()?;
     }
-    Ok(out.flush()?)
+    Ok(())
 }
 
 // The start, and then the mornings. So in `plain`: what is done with each morning differs.
@@ -145,9 +139,8 @@ fn run(rt: &HostRuntime, first: &str, names: Args) -> anyhow::Result<()> {
 
 // Takes a morning: all that is paid on it, together, modulo 2^64; nothing where it is refused.
 fn paid_on(memory: &mut Memory, bytes: &[u8]) -> anyhow::Result<u64> {
-    memory.make_room(bytes)?;
     let mut sum: u64 = 0;
-    for bytes in memory.take(bytes).unwrap_or(&[]).chunks_exact(PAYMENT) {
+    for bytes in memory.pay(bytes)?.unwrap_or(&[]).chunks_exact(PAYMENT) {
         sum = sum.wrapping_add(read_payment(bytes, 0).amount);
     }
     Ok(sum)

@@ -51,7 +51,8 @@ fn count_new(bytes: &[u8], n: u16, seen: &mut [bool], before: usize) -> usize
     count
 }
 
-// The pairs of the first deals that are kept, and of a morning's. N is how long the table is: a constant would be written out whole wherever the table is looked at.
+// The pairs of the first deals that are kept, and of a morning's. N is how long the table is: a constant would be written out whole wherever the table is looked at. A call of its own, so that a morning for which nothing is counted needs no stack for the table.
+#[inline(never)]
 pub(crate) fn count_pairs<const N: usize>(deals: &[u8], first: usize, bytes: &[u8], n: u16) -> usize
     requires table { N ≡ 1048576 }
     requires long { 16384 * first ≤ length deals.now }

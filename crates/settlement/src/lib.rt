@@ -11,7 +11,7 @@ ghost use Rattle.settlement.specs.declared.NotTaken.TheVariants.{Refused, TooSho
 mod counting;
 mod directory;
 mod netting;
-mod opening;
+pub mod opening;
 mod order;
 mod payments;
 pub mod room;
@@ -75,7 +75,7 @@ impl From<Lent> for NotTaken {
 }
 
 // The morning of day t for the first n deals: each that wakes has its morning, and what each pair comes to is paid; how many payments there are. All memory is lent, so that how many deals and currencies there are stands beside it.
-fn settle(
+pub fn settle(
     deals: &mut [u8],
     n: usize,
     t: u32,

@@ -58,7 +58,7 @@ fn open_next(
 }
 
 // All deals of a morning, behind those that there are: k counts them, and first + k is a deal's number. They are walked by place, as in `count_new`.
-pub(crate) fn open_deals(deals: &mut [u8], first: usize, bytes: &[u8], n: u16, start: Start)
+pub fn open_deals(deals: &mut [u8], first: usize, bytes: &[u8], n: u16, start: Start)
     requires { 16384 * (first + n) ≤ length deals.old }
     ensures { OpensAll start bytes.now n first deals.old deals.new }
 {
