@@ -38,7 +38,7 @@ impl fmt::Display for NotTaken {
     fn fmt<W: fmt::Write>(&self, f: &mut fmt::Formatter<W>) -> fmt::Result {
         match self {
             NotTaken::Refused(refusal) => write!(f, "{refusal}"),
-            NotTaken::OutOfMemory => write!(f, "out of memory"),
+            NotTaken::OutOfMemory => write!(f, "memory allocation failed"),
         }
     }
 }
