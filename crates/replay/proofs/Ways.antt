@@ -1,5 +1,5 @@
 -- Ways as numbers.
-use Rattle.std.proofs.Common.{◌≡◌, ℕ, ◌+◌, ◌≤◌, [], ◌∷◌, ◌++◌, length, min, sym, refl, ◌∙◌, arith, length-append}
+use Rattle.std.proofs.Common.{◌≡◌, ℕ, ◌≤◌, [], ◌∷◌, ◌++◌, length, sym, refl, ◌∙◌, arith, length-append}
 use Rattle.std.specs.List.{fold}
 use Rattle.deals.specs.Contract.{Path}
 use Rattle.replay.specs.declared.choices.Way.{Way}
@@ -21,17 +21,14 @@ way_step p s =
     same_way _ _ _ _ (sym (bits_append 0 p s)) (omega arith)
 
 -- one step after the other
-ways_fold : (b l : ℕ) (p : Path) → l ≤ 18446744073709551615 →
-    fold stepped (record { bits = b; len = l }) p ≡ record { bits = way_bits b p; len = min (l + length p) 18446744073709551615 }
+pub bits_fold : (b : ℕ) (p : Path) → fold one_more b p ≡ way_bits b p
 unfolding way_bits
-ways_fold b l [] h = same_way b b l (min (l + 0) 18446744073709551615) refl (omega arith)
-ways_fold b l (s ∷ p) h =
-    let long : min (min (l + 1) 18446744073709551615 + length p) 18446744073709551615 ≡ min (l + length (s ∷ p)) 18446744073709551615 = omega arith in
-    ways_fold (one_more b s) (min (l + 1) 18446744073709551615) p (omega arith) ∙ same_way _ _ _ _ refl long
+bits_fold b [] = refl
+bits_fold b (s ∷ p) = bits_fold (one_more b s) p
 
-pub way_fold : (w r : Way) (p : Path) → w.bits ≡ 0 → w.len ≡ 0 → r ≡ fold stepped w p → r ≡ way_of p
+pub way_fold : (p : Path) (b n : ℕ) → b ≡ fold one_more 0 p → n ≡ length p → n ≤ 18446744073709551615 → ◌≡◌ {A = Way} (record { bits = b; len = n }) (way_of p)
 unfolding way_of
-way_fold w r p none start e = e ∙ (λ i. fold stepped (record { bits = none i; len = start i }) p) ∙ ways_fold 0 0 p (omega arith) ∙ same_way _ _ _ _ refl (omega arith)
+way_fold p b n e l h = same_way _ _ _ _ (e ∙ bits_fold 0 p) (omega arith)
 
 pub way_long : (p : Path) (n : ℕ) → length p ≡ n → n ≤ 18446744073709551615 → way_of p ≡ record { bits = way_bits 0 p; len = n }
 unfolding way_of

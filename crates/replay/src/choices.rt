@@ -1,5 +1,5 @@
 // The choices of a day, in the kept bytes, and ways as numbers.
-ghost use Rattle.replay.specs.Choices.{way_of, stepped, choice_in, is_for, chosen_from, chosen_on};
+ghost use Rattle.replay.specs.Choices.{one_more, way_of, stepped, choice_in, is_for, chosen_from, chosen_on};
 ghost use Rattle.replay.specs.Days.{bytes_of};
 ghost use Rattle.std.specs.Prelude.{◌≡◌};
 
@@ -21,24 +21,32 @@ struct ChoiceIn {
     next: usize,
 }
 
+// A bit more, as far as 64 bits hold it.
+fn one_more(bits: u64, step: u8) -> u64
+    ensures { result ≡ one_more bits step }
+{
+    bits.wrapping_mul(2).wrapping_add(u64::from(step))
+}
+
 impl Way {
     // A step further.
     pub(crate) fn step(self, step: u8) -> Way
         ensures { result ≡ stepped self step }
     {
         Way {
-            bits: self.bits.wrapping_mul(2).wrapping_add(u64::from(step)),
+            bits: one_more(self.bits, step),
             len: self.len.saturating_add(1),
         }
     }
 
-    // The way of some steps.
+    // The way of some steps. The bits alone go from step to step: every choice is read at each deal that looks for one, and a length that is counted with them takes as long again.
     fn of(steps: &[u8]) -> Way
         ensures { result ≡ way_of steps.now }
     {
-        steps
-            .iter()
-            .fold(Way::default(), |way, step| way.step(*step))
+        Way {
+            bits: steps.iter().fold(0, |bits, step| one_more(bits, *step)),
+            len: steps.len(),
+        }
     }
 }
 

@@ -33,9 +33,9 @@ impl<'a> Deal<'a> {
         self.figure(t, 256, i)
     }
 
-    // The same by the nodes, at most n deep.
-    fn figure(self, t: usize, n: usize, i: usize) -> i64
-        ensures { result ≡ figure_at (rates_of self.entry.days) (node_in self.entry.nodes.now) t n i }
+    // The same by the nodes, at most n deep. It is lent, since it would be copied at each node.
+    fn figure(&self, t: usize, n: usize, i: usize) -> i64
+        ensures { result ≡ figure_at (rates_of self.now.days) (node_in self.now.nodes.now) t n i }
     {
         if n == 0 || i >= 256 {
             return 0;

@@ -40,9 +40,9 @@ impl Part {
 
 impl<'a> Deal<'a> {
     // The part that goes on in the place of one with a choice, if, on, when or by, if one does.
-    fn next(self, node: Node, part: Part) -> Option<Part>
+    fn next(&self, node: Node, part: Part) -> Option<Part>
         requires { part.at < 256 }
-        ensures { result ≡ next_of (seen_by self.entry) part node }
+        ensures { result ≡ next_of (seen_by self.now) part node }
     {
         let i = part.at + 1;
         let t = part.day;
@@ -78,9 +78,9 @@ impl<'a> Deal<'a> {
         }
     }
 
-    // What flows on day u under a part, at most n deep, is put behind what is in `out`.
-    pub(crate) fn flow(self, u: usize, n: usize, part: Part, out: &mut Dues)
-        ensures { Adds out.old out.new (flow_at (seen_by self.entry) u n part) }
+    // What flows on day u under a part, at most n deep, is put behind what is in `out`. The deal is lent, since it would be copied at each part.
+    pub(crate) fn flow(&self, u: usize, n: usize, part: Part, out: &mut Dues)
+        ensures { Adds out.old out.new (flow_at (seen_by self.now) u n part) }
     {
         let i = part.at;
         let t = part.day;

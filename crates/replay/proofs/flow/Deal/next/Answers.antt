@@ -48,7 +48,7 @@ returns-in_ok-v-in-By c = grind (arith, nat_tests)
 
 pub returns-in_default : goal.returns-in_default
 returns-in_default c =
-    let s = seen_by c.args.self in
+    let s = seen_by c.args.self.now in
     let r = c.in_default in
     sym (next_none s 0 c.args.part c.args.node r.not-Choice r.not-If r.not-On r.not-When r.not-By)
 
