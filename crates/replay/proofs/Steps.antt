@@ -1,5 +1,5 @@
 -- One step of each recursion, at a number that isn't 0.
-use Rattle.std.proofs.Common.{◌≡◌, ℕ, zero, suc, ◌+◌, ◌-◌, ◌<◌, ◌≤◌, List, [], ℤ, pos, None, refl, arith}
+use Rattle.std.proofs.Common.{◌≡◌, ℕ, zero, suc, ◌+◌, ◌-◌, ◌<◌, ◌≤◌, List, [], ℤ, pos, None, min, ap, ◌∙◌, refl, arith}
 use Rattle.std.proofs.lemmas.Bool.{lt-ltb, le-ltb}
 use Rattle.texts.specs.declared.nodes.Node.{Node}
 use Rattle.texts.specs.declared.nodes.Node.TheVariants.{Nothing, Pays, Turned, Both, Choice, If, Of, On, When, By, Fixed, Rate, Day, Plus, Minus, Times, Max, Less}
@@ -32,6 +32,15 @@ passed_more node (suc n) (suc more) i p q = rw (pred_of n, pred_of more)
 pub passed_end : (node : ℕ → Node) (n more i : ℕ) → n ≡ 0 → passed node n more i ≡ i
 unfolding passed
 passed_end node n more i e = rw e
+
+-- where nothing stands each place ends one part
+pub passed_nothing : (node : ℕ → Node) (n more i : ℕ) → ((j : ℕ) → i ≤ j → node j ≡ Nothing) → passed node n more i ≡ i + min more n
+unfolding passed
+passed_nothing node zero more i none = omega arith
+passed_nothing node (suc n) zero i none = omega arith
+passed_nothing node (suc n) (suc more) i none =
+    let here : more + within (node i) ≡ more = ap (λ z. more + within z) (none i (omega arith)) ∙ omega arith in
+    ap (λ z. passed node n z (i + 1)) here ∙ passed_nothing node n more (i + 1) (λ j le. none j (omega arith)) ∙ omega arith
 
 module _ (rates : ℕ → ℕ → ℤ) (node : ℕ → Node) (t : ℕ) where
   pub figure_zero : (n i : ℕ) → n ≡ 0 → figure_at rates node t n i ≡ pos 0

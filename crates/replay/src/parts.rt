@@ -30,12 +30,15 @@ fn within(node: Node) -> usize
 pub(crate) fn behind(nodes: &[Node], from: usize) -> usize
     ensures { result ≡ behind (node_in nodes.now) from }
 {
+    // Each node is looked at without asking whether there is one: this is where a wide contract takes its time.
+    let end = nodes.len().min(256);
     let mut more = 1;
     let mut i = from;
     // A `while`: it ends by what is still to come, and the place at which it ends is the result.
-    while more > 0 && i < 256 {
-        more = more - 1 + within(node(nodes, i));
+    while more > 0 && i < end {
+        more = more - 1 + within(nodes[i]);
         i += 1;
     }
-    i
+    // Past the last node each place is nothing, and one part less is to come.
+    if i < 256 { (i + more).min(256) } else { i }
 }
