@@ -5,6 +5,7 @@ ghost use Rattle.replay.specs.Meaning.{Worth};
 ghost use Rattle.replay.specs.Parts.{node_in};
 ghost use Rattle.std.specs.Prelude.{◌≡◌};
 
+use crate::days::Days;
 use crate::flow::Deal;
 use crate::parts::{behind, node};
 use figures::{difference, larger, less, product, sum};
@@ -30,24 +31,26 @@ impl<'a> Deal<'a> {
         ensures is { result ≡ figure_at (rates_of self.entry.days) (node_in self.entry.nodes.now) t 256 i }
         ensures meant { Worth self.entry.days.kept.now self.entry.days.days.now (node_in self.entry.nodes.now) t i result }
     {
-        self.figure(t, 256, i)
+        self.days.figure(self.nodes, t, 256, i)
     }
+}
 
-    // The same by the nodes, at most n deep. It is lent, since it would be copied at each node.
-    fn figure(&self, t: usize, n: usize, i: usize) -> i64
-        ensures { result ≡ figure_at (rates_of self.now.days) (node_in self.now.nodes.now) t n i }
+impl<'a> Days<'a> {
+    // The value on day t of the figure at place i of some nodes, at most n deep. What it is worked out from is lent, since it would be copied at each node.
+    fn figure(&self, nodes: &[Node], t: usize, n: usize, i: usize) -> i64
+        ensures { result ≡ figure_at (rates_of self.now) (node_in nodes.now) t n i }
     {
         if n == 0 || i >= 256 {
             return 0;
         }
-        let node = node(self.nodes, i);
+        let node = node(nodes, i);
         match node {
             Node::Fixed(a) => a,
-            Node::Rate(k, m) => self.days.rate_before(t, k as usize, m as usize),
+            Node::Rate(k, m) => self.rate_before(t, k as usize, m as usize),
             Node::Day => (t as u64).cast_signed(),
             Node::Plus | Node::Minus | Node::Times | Node::Max | Node::Less => {
-                let a = self.figure(t, n - 1, i + 1);
-                let b = self.figure(t, n - 1, behind(self.nodes, i + 1));
+                let a = self.figure(nodes, t, n - 1, i + 1);
+                let b = self.figure(nodes, t, n - 1, behind(nodes, i + 1));
                 combined(node, a, b)
             }
             _ => 0,

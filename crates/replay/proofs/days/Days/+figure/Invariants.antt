@@ -1,4 +1,4 @@
-use Rattle.replay.proofs.flow.Deal.+figure.Given as goal
+use Rattle.replay.proofs.days.Days.+figure.Given as goal
 
 abbrev pub decreases-figure : goal.decreases-figure
 decreases-figure l = l.n
