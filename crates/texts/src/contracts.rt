@@ -96,7 +96,8 @@ fn turned(text: &[u8], at: usize, read: &mut Reading) -> Result<usize, usize>
     word(text, to, b")")
 }
 
-// Two, in brackets behind a word.
+// Two, in brackets behind a word. It is part of what calls it, so that no node is kept on the stack for it.
+#[inline(always)]
 #[cycle(by_day_contract_if_else_on_day_pair_scaled_turned_when)]
 fn pair(text: &[u8], at: usize, name: &[u8], node: Node, read: &mut Reading) -> Result<usize, usize>
     requires within { at ≤ length text.now }
